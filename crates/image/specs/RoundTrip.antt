@@ -1,0 +1,94 @@
+-- The format as it is written and as it is read are one format. An image is good exactly if it is the writing of a sound
+-- grammar and short enough; so a good image has one meaning, and every sound grammar that fits has one image.
+use Prim.Native.Nat.{ℕ, _+_, _≤_, _<_}
+use mathlib.Core.Path.{_≡_, refl, ap, sym, _∙_}
+use mathlib.Core.Bool.{Bool, true, false}
+use mathlib.Core.Logic.{_↔_}
+use mathlib.Core.List.{List, [], _∷_, _++_}
+use native.Mathlib.Omega.{arith}
+use lib.Dec.{ltb}
+use lib.ListN.{drop, take, length, length-drop}
+use lib.Seq.{take-all, getD-drop}
+use borrow.Author.Tests.{ltb-false, le-ltb}
+use Rattle.grammar.specs.Grammar.{Grammar}
+use Rattle.grammar.specs.Sound.{Bytes, Sound}
+use Rattle.image.specs.Reading.{Reading, got, fault, pick, _then_}
+use Rattle.image.specs.ReadingLaws.{All, holds, stops, of-got}
+use Rattle.image.specs.Number.{groups, numberAt}
+use Rattle.image.specs.NumberLaws.{Refusal, first-all, first-back}
+use Rattle.image.specs.Written.{encode}
+use Rattle.image.specs.Image.{headAt, bodyAt, Checked, good, refused, ended, readImage}
+use Rattle.image.specs.ImageLaws.{zero-plus}
+use Rattle.image.specs.OnlyWritten.{Front, front-on, Whole, body-all}
+use Rattle.image.specs.ReadBack.{Back, body-back}
+
+-- An image is this grammar's: the grammar is sound, its writing is the image, and the image is at most 16,384 bytes.
+pub record Stands (image : List ℕ) (g : Grammar) : Type 0 where
+  pub sound : Sound g
+  pub writing : encode g ≡ image
+  pub short : length image ≤ 16384
+
+-- What is said of an image: it stands for a grammar; or its refusal is one of 1 to 8, and of place at most its length.
+pub data Said (image : List ℕ) : Checked → Type 0 where
+  stands : {g : Grammar} → Stands image g → Said image (good g)
+  refuses : {n place : ℕ} → (1 ≤ n) × (n ≤ 8) × (place ≤ length image) → Said image (refused n place)
+
+module _ (image : List ℕ) (bytes : Bytes image) where
+  at-end : (short : length image ≤ 16384) {g : Grammar} {at : ℕ} → Whole image bytes g at → (t : Bool) → ltb at (length image) ≡ t → Said image (pick t (refused 8 at) (good g))
+  at-end short {g} {at} w true e = refuses (eight (w .on .within))
+    where
+      eight : at ≤ length image → (1 ≤ 8) × (8 ≤ 8) × (at ≤ length image)
+      eight h = (omega arith, omega arith, h)
+  at-end short {g} {at} w false e = stands (record {
+    sound = w .sound;
+    writing = sym (w .on .front) ∙ take-all at image (ltb-false at (length image) e);
+    short = short;
+  })
+
+  pub said : Said image (readImage image)
+  said = whole (ltb 16384 (length image)) refl
+    where
+      later : {n place : ℕ} → Refusal (length image) n place → (1 ≤ n) × (n ≤ 8) × (place ≤ length image)
+      later r = omega arith
+
+      first : (1 ≤ 1) × (1 ≤ 8) × (0 ≤ length image)
+      first = omega arith
+
+      go : length image ≤ 16384 → {r : Reading Grammar} → All (Whole image bytes) (Refusal (length image)) r → Said image (ended image r)
+      go short (holds {x = g} {next = at} w) = at-end short w (ltb at (length image)) refl
+      go short (stops h) = refuses (later h)
+
+      whole : (t : Bool) → ltb 16384 (length image) ≡ t → Said image (pick t (refused 1 0) (ended image (headAt image then bodyAt image)))
+      whole true e = refuses first
+      whole false e = go (ltb-false 16384 (length image) e) (body-all image bytes)
+
+of-good : {image : List ℕ} {g : Grammar} → Said image (good g) → Stands image g
+of-good (stands h) = h
+
+of-refused : {image : List ℕ} {n place : ℕ} → Said image (refused n place) → (1 ≤ n) × (n ≤ 8) × (place ≤ length image)
+of-refused (refuses h) = h
+
+read-back : (image : List ℕ) (g : Grammar) → Stands image g → readImage image ≡ good g
+read-back image g s =
+    let b = body-back image g (s .sound) (s .writing) in
+    rw (le-ltb 16384 (length image) (s .short), b .is) (rw (le-ltb (b .next) (length image) (omega (arith, simp length-drop at (ap length (b .after))))))
+
+-- THE ROUND TRIP. The reader says good with g exactly if g is sound, `encode g` is the image, and it is at most 16,384 bytes.
+pub exact : (image : List ℕ) → Bytes image → (g : Grammar) → (readImage image ≡ good g) ↔ Stands image g
+exact image bytes g = ((λ e. of-good (rw e at (said image bytes))), read-back image g)
+
+-- A refusal is one of 1 to 8, never 0, and its place is in the image or at its end.
+pub refusal : (image : List ℕ) → Bytes image → (n place : ℕ) → readImage image ≡ refused n place → (1 ≤ n) × (n ≤ 8) × (place ≤ length image)
+refusal image bytes n place e = of-refused (rw e at (said image bytes))
+
+-- ## The numbers by themselves
+
+-- What is written is read back.
+pub number-read : (n : ℕ) (t : List ℕ) → n < 2097152 → numberAt (groups n ++ t) 0 ≡ got n (length (groups n))
+number-read n t h = first-back (length (groups n ++ t)) 0 n t h ∙ ap (λ k. got n k) (zero-plus (length (groups n)))
+
+-- What was read is how that number is written, and no other way.
+pub number-written : (b : List ℕ) (at n next : ℕ) → Bytes b → at ≤ length b → numberAt b at ≡ got n next → (take next b ≡ take at b ++ groups n) × (n < 2097152)
+number-written b at n next bytes l e =
+    let w = of-got (rw e at (first-all (length b) at l (drop at b) (λ i. rw (getD-drop at b i 0) (bytes (at + i))))) in
+    (rw (w .place) (front-on b (groups n) (w .rest) (record { front = refl; within = l }) (w .split) .front), w .small)
