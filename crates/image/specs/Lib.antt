@@ -10,3 +10,8 @@ pub mod OnlyWritten
 pub mod ReadBack
 pub mod RoundTrip
 pub mod Cases
+pub mod Word
+pub mod Shapes
+pub mod Node
+pub mod NodeLaws
+pub mod Meant

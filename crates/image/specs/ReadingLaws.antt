@@ -38,3 +38,8 @@ onward k e = ap (λ r. r then k) e
 pub then-assoc : {A B C : Type 0} (r : Reading A) (f : A → ℕ → Reading B) (k : B → ℕ → Reading C) → ((r then f) then k) ≡ (r then λ x at. f x at then k)
 then-assoc (got x at) f k = refl
 then-assoc (fault n place) f k = refl
+
+-- Two ways of reading on that agree on every value and place that can be read are one.
+pub then-ext : {A B : Type 0} {P : A → ℕ → Type 0} {Q : ℕ → ℕ → Type 0} {r : Reading A} (f g : A → ℕ → Reading B) → All P Q r → ((x : A) (at : ℕ) → P x at → f x at ≡ g x at) → (r then f) ≡ (r then g)
+then-ext f g (holds {x = x} {next = at} h) same = same x at h
+then-ext f g (stops h) same = refl

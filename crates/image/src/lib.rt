@@ -1,1 +1,4 @@
-// The image of a grammar.
+// The image of a grammar: numbers, nodes, and the check of a whole image.
+pub mod node;
+pub mod number;
+pub mod operands;

@@ -1,0 +1,4 @@
+-- Laws that the proofs of several functions cite.
+pub mod Groups
+pub mod ReadLaws
+pub mod ShapeLaws

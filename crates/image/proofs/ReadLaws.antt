@@ -1,0 +1,44 @@
+-- A reading by the code and what it says: where it got a number one reads on, and where it was refused it stays.
+use Prim.Native.Nat.{ℕ, _<_, _≤_}
+use mathlib.Core.Path.{_≡_, refl, ap, sym, _∙_}
+use mathlib.Core.List.{List}
+use native.Mathlib.Omega.{arith}
+use borrow.Author.Tests.{lt-ltb, le-ltb, le-leb, lt-leb}
+use denote.Enum.Declared.{tagOf}
+use Rattle.image.proofs.number.Read.{the-type}
+use Rattle.image.specs.declared.number.Number.{Number}
+use Rattle.image.specs.declared.number.Read.{Read}
+use Rattle.image.specs.declared.number.Read.the-variants.{Got, Refused}
+use Rattle.image.specs.Reading.{Reading, got, fault, pick, _then_}
+use Rattle.image.specs.ReadingLaws.{onward}
+use Rattle.image.specs.Number.{numberAt}
+use Rattle.image.specs.Image.{inside, number}
+use Rattle.image.specs.ImageLaws.{number-below}
+use Rattle.image.specs.Meant.{reading}
+
+-- What was refused is refused, whatever would follow.
+pub stays : (r : Read) → tagOf the-type r ≡ 1 → (k : ℕ → ℕ → Reading ℕ) {x : Reading ℕ} → reading r ≡ x → reading r ≡ (x then k)
+stays (Got n) t k e = absurd (omega arith)
+stays (Refused f) t k e = onward k e
+
+-- What was got is read on from.
+pub goes : (k : ℕ → ℕ → Reading ℕ) {r : Read} {n : Number} {x : Reading ℕ} → reading r ≡ x → r ≡ Got n → k (n .value) (n .next) ≡ (x then k)
+goes k e g = onward k (sym (ap reading g) ∙ e)
+
+-- How a number that was read is judged by its range.
+module _ (at low stop why : ℕ) where
+  abbrev pub judged : ℕ → ℕ → Reading ℕ
+  judged n next = pick (inside low stop n) (got n next) (fault why at)
+
+  pub too-low : (n next : ℕ) → n < low → fault why at ≡ judged n next
+  too-low n next h = rw (lt-leb low n h)
+
+  pub fits : (n next : ℕ) → low ≤ n → n < stop → got n next ≡ judged n next
+  fits n next h h' = rw (le-leb low n h, lt-ltb n stop h')
+
+  pub too-high : (n next : ℕ) → low ≤ n → stop ≤ n → fault why at ≡ judged n next
+  too-high n next h h' = rw (le-leb low n h, le-ltb n stop h')
+
+-- A number that was got is below what it must be below.
+pub under : (image : List ℕ) (why low stop at : ℕ) {r : Read} {n : Number} → reading r ≡ number image why low stop at → r ≡ Got n → n .value < stop
+under image why low stop at e g = number-below image why low stop at (sym (ap reading g) ∙ e)

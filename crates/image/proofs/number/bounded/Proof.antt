@@ -1,0 +1,40 @@
+-- `bounded` meets its promise: what `number_at` gives, judged. Assumes nothing.
+use mathlib.Core.Path.{_∙_}
+use native.Mathlib.Omega.{arith}
+use Rattle.image.proofs.ReadLaws.{stays, goes, judged, too-low, fits, too-high}
+use borrow.Author.Needs.{needs}
+use Rattle.image.proofs.number.bounded.Statement.{statement}
+use Rattle.image.proofs.number.bounded.Tie as tie
+
+number-at-requires : tie.Need-number-at-requires
+number-at-requires c κs = search needs
+
+enum-known-r : tie.Need-enum-known-r
+enum-known-r c = search needs
+
+enum-told : tie.Need-enum-told
+enum-told c = search needs
+
+returns : tie.Need-returns
+returns c = let a = c .before .before .before .before .args in
+    stays (c .before .before .number-at .result) (c .before .match .keys2) (judged (a .at) (a .low) (a .stop) (a .why)) (c .before .before .number-at .ensures)
+
+returns-2 : tie.Need-returns-2
+returns-2 c = let a = c .before .before .before .before .before .before .before .args in let r = c .before .before .before .r .given in
+    too-low (a .at) (a .low) (a .stop) (a .why) (r .0 .0 .value) (r .0 .0 .next) (omega arith)
+    ∙ goes (judged (a .at) (a .low) (a .stop) (a .why)) (c .before .before .before .before .before .number-at .ensures) (r .1)
+
+returns-3 : tie.Need-returns-3
+returns-3 c = let a = c .before .before .before .before .before .before .before .before .before .args in let r = c .before .before .before .before .before .r .given in
+    fits (a .at) (a .low) (a .stop) (a .why) (r .0 .0 .value) (r .0 .0 .next) (omega arith) (omega arith)
+    ∙ goes (judged (a .at) (a .low) (a .stop) (a .why)) (c .before .before .before .before .before .before .before .number-at .ensures) (r .1)
+
+returns-4 : tie.Need-returns-4
+returns-4 c = let a = c .before .before .before .before .before .before .before .before .before .args in let r = c .before .before .before .before .before .r .given in
+    too-high (a .at) (a .low) (a .stop) (a .why) (r .0 .0 .value) (r .0 .0 .next) (omega arith) (omega arith)
+    ∙ goes (judged (a .at) (a .low) (a .stop) (a .why)) (c .before .before .before .before .before .before .before .number-at .ensures) (r .1)
+
+pub bounded-spec : {M : Type 1} → statement M
+bounded-spec =
+    tie.close
+    (tie.spec number-at-requires enum-known-r enum-told returns returns-2 returns-3 returns-4)
