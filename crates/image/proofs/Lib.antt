@@ -2,3 +2,5 @@
 pub mod Groups
 pub mod ReadLaws
 pub mod ShapeLaws
+pub mod FillLaws
+pub mod HeadLaws

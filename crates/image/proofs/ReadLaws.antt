@@ -7,6 +7,7 @@ use borrow.Author.Tests.{lt-ltb, le-ltb, le-leb, lt-leb}
 use denote.Enum.Declared.{tagOf}
 use Rattle.image.proofs.number.Read.{the-type}
 use Rattle.image.specs.declared.number.Number.{Number}
+use Rattle.image.specs.declared.number.Refusal.{Refusal}
 use Rattle.image.specs.declared.number.Read.{Read}
 use Rattle.image.specs.declared.number.Read.the-variants.{Got, Refused}
 use Rattle.image.specs.Reading.{Reading, got, fault, pick, _then_}
@@ -22,8 +23,12 @@ stays (Got n) t k e = absurd (omega arith)
 stays (Refused f) t k e = onward k e
 
 -- What was got is read on from.
-pub goes : (k : ℕ → ℕ → Reading ℕ) {r : Read} {n : Number} {x : Reading ℕ} → reading r ≡ x → r ≡ Got n → k (n .value) (n .next) ≡ (x then k)
+pub goes : {B : Type 0} (k : ℕ → ℕ → Reading B) {r : Read} {n : Number} {x : Reading ℕ} → reading r ≡ x → r ≡ Got n → k (n .value) (n .next) ≡ (x then k)
 goes k e g = onward k (sym (ap reading g) ∙ e)
+
+-- What was refused is refused, said of a reading of another kind.
+pub breaks : {B : Type 0} (k : ℕ → ℕ → Reading B) {r : Read} {f : Refusal} {x : Reading ℕ} → reading r ≡ x → r ≡ Refused f → fault (f .number) (f .place) ≡ (x then k)
+breaks k e g = onward k (sym (ap reading g) ∙ e)
 
 -- How a number that was read is judged by its range.
 module _ (at low stop why : ℕ) where

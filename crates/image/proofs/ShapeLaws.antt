@@ -91,10 +91,11 @@ module _ (image : List ℕ) (T C N own : ℕ) where
   text-kept k at false e = refl
 
   pub text-word : (tag at : ℕ) → 4 ≤ tag → tag < 5 → textAt image at ≡ operandsAt tag at
-  text-word tag at = between (λ n. textAt image at ≡ operandsAt n at) 4 1 tag
-      ( then-ext (bytesAt image) (λ k at. (raw image k at then λ bytes at. got (Text bytes) at) then keep) (number-all image 7 1 65 at) (λ k at h. text-kept k at (leb (at + k) (length image)) refl)
-        ∙ sym (then-assoc (number image 7 1 65 at) (λ k at. raw image k at then λ bytes at. got (Text bytes) at) keep)
-      , tt)
+  text-word tag at = between (λ n. textAt image at ≡ operandsAt n at) 4 1 tag (
+    then-ext (bytesAt image) (λ k at. (raw image k at then λ bytes at. got (Text bytes) at) then keep) (number-all image 7 1 65 at) (λ k at h. text-kept k at (leb (at + k) (length image)) refl)
+        ∙ sym (then-assoc (number image 7 1 65 at) (λ k at. raw image k at then λ bytes at. got (Text bytes) at) keep),
+    tt,
+  )
 
   -- Sequence, Choice; Star, Not; Call.
   pub pair-word : (tag at : ℕ) → 5 ≤ tag → tag < 7 → twoAt image tag own own at ≡ operandsAt tag at
@@ -127,9 +128,9 @@ module _ (image : List ℕ) (T C N own : ℕ) where
   switch-then at k e same =
       then-assoc (number image 7 0 C at) (truthOf image) k
       ∙ then-ext (λ c at. truthOf image c at then k) (λ c at. (number image 7 0 2 at then e c) then keep) (number-all image 7 0 C at)
-        (λ c at h. then-assoc (number image 7 0 2 at) (switched c) k
-          ∙ then-ext (λ w at. k (switch c w) at) (λ w at. e c w at then keep) (number-all image 7 0 2 at) (λ w at l. same c w at l)
-          ∙ sym (then-assoc (number image 7 0 2 at) (e c) keep))
+      (λ c at h. then-assoc (number image 7 0 2 at) (switched c) k
+      ∙ then-ext (λ w at. k (switch c w) at) (λ w at. e c w at then keep) (number-all image 7 0 2 at) (λ w at l. same c w at l)
+      ∙ sym (then-assoc (number image 7 0 2 at) (e c) keep))
       ∙ sym (then-assoc (number image 7 0 C at) (λ c at. number image 7 0 2 at then e c) keep)
 
   pub if-word : (tag at : ℕ) → 17 ≤ tag → tag < 18 → ifAt image C at ≡ operandsAt tag at
@@ -137,6 +138,8 @@ module _ (image : List ℕ) (T C N own : ℕ) where
       (switch-then at (word1 17) (λ c w at. got (If c (eqb w 1)) at) (λ c w at l. rw (bit-back w l)), tt)
 
   pub on-word : (tag at : ℕ) → 18 ≤ tag → tag < 19 → onAt image C own at ≡ operandsAt tag at
-  on-word tag at = between (λ n. onAt image C own at ≡ operandsAt n at) 18 1 tag
-      (switch-then at (lastAt image 18 own) (λ c w at. number image 7 0 own at then λ a at. got (On c (eqb w 1) a) at)
-        (λ c w at l. ap (λ b. number image 7 0 own at then λ a at. got (packed 18 (switch c b) a) at) (sym (bit-back w l)) ∙ one-kept (number image 7 0 own at) (λ a. On c (eqb w 1) a)), tt)
+  on-word tag at = between (λ n. onAt image C own at ≡ operandsAt n at) 18 1 tag (
+    switch-then at (lastAt image 18 own) (λ c w at. number image 7 0 own at then λ a at. got (On c (eqb w 1) a) at)
+        (λ c w at l. ap (λ b. number image 7 0 own at then λ a at. got (packed 18 (switch c b) a) at) (sym (bit-back w l)) ∙ one-kept (number image 7 0 own at) (λ a. On c (eqb w 1) a)),
+    tt,
+  )

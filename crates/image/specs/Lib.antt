@@ -15,3 +15,6 @@ pub mod Shapes
 pub mod Node
 pub mod NodeLaws
 pub mod Meant
+pub mod Filled
+pub mod FilledLaws
+pub mod LoadLaws

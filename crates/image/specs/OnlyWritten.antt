@@ -45,11 +45,11 @@ module _ (image : List ℕ) where
     pub small : Bytes s
     pub on : Front (v ++ s) next
 
-  record One {A : Type 0} (S : A → Type 0) (w : A → List ℕ) (u : List ℕ) (x : A) (next : ℕ) : Type 0 where
+  pub record One {A : Type 0} (S : A → Type 0) (w : A → List ℕ) (u : List ℕ) (x : A) (next : ℕ) : Type 0 where
     pub fits : S x
     pub on : Front (u ++ w x) next
 
-  record Many {A : Type 0} (S : ℕ → A → Type 0) (w : A → List ℕ) (i k : ℕ) (u : List ℕ) (xs : List A) (next : ℕ) : Type 0 where
+  pub record Many {A : Type 0} (S : ℕ → A → Type 0) (w : A → List ℕ) (i k : ℕ) (u : List ℕ) (xs : List A) (next : ℕ) : Type 0 where
     pub fits : EachFrom S i xs
     pub count : length xs ≡ k
     pub on : Front (u ++ written w xs) next
@@ -58,7 +58,7 @@ module _ (image : List ℕ) where
   abbrev pub Stop : ℕ → ℕ → Type 0
   Stop = Refusal (length image)
 
-  times-all : {A : Type 0} (S : ℕ → A → Type 0) (w : A → List ℕ) (p : ℕ → ℕ → Reading A) → ((i at : ℕ) (u : List ℕ) → Front u at → All (One (S i) w u) Stop (p i at))
+  pub times-all : {A : Type 0} (S : ℕ → A → Type 0) (w : A → List ℕ) (p : ℕ → ℕ → Reading A) → ((i at : ℕ) (u : List ℕ) → Front u at → All (One (S i) w u) Stop (p i at))
       → (i k : ℕ) (u : List ℕ) (at : ℕ) → Front u at → All (Many S w i k u) Stop (times p i k at)
   times-all S w p each i zero u at f = holds {next = at} (record { fits = nil; count = refl; on = rw (append-nil u) f })
   times-all S w p each i (suc k) u at f =
@@ -131,10 +131,10 @@ module _ (image : List ℕ) where
           & (λ u at f. operand 0 C f ▹ λ c at r. operand 0 2 (r .on) ▹ λ w at s. operand 0 own (s .on) ▹ λ a at q. done (On c (eqb w 1) a) {at = at} (r .under, q .under) (rw (bit-back w (s .under)) (q .on .here)))
           & nil
 
-      node-all : {u : List ℕ} {at : ℕ} → Front u at → All (One (Fits T C N own) encodeNode u) Stop (nodeAt image T C N own at)
+      pub node-all : {u : List ℕ} {at : ℕ} → Front u at → All (One (Fits T C N own) encodeNode u) Stop (nodeAt image T C N own at)
       node-all {u} {at} f = number-all 6 0 19 (omega arith) (start f) ▹ λ tag at r. each-at Kind (fault 6) (kinds image T C N own) 0 tag kinds-all (r .under) u at (rw (zero-plus tag) (r .on))
 
-    pattern-all : (N i at : ℕ) (u : List ℕ) → Front u at → All (One (λ a. a < N) groups u) Stop (number image 7 0 N at)
+    pub pattern-all : (N i at : ℕ) (u : List ℕ) → Front u at → All (One (λ a. a < N) groups u) Stop (number image 7 0 N at)
     pattern-all N i at u f = operand 0 N (start f) ▹' λ n at r. record { fits = r .under; on = rw (append-nil (groups n)) at (r .on .here) }
 
     -- The numbers that the image begins with, within their ranges.

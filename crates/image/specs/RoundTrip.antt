@@ -28,17 +28,21 @@ pub record Stands (image : List ℕ) (g : Grammar) : Type 0 where
   pub writing : encode g ≡ image
   pub short : length image ≤ 16384
 
--- What is said of an image: it stands for a grammar; or its refusal is one of 1 to 8, and of place at most its length.
+-- A refusal is one of 1 to 8, never 0; its place is in the image or at its end, and in the first 16,384 bytes or at their end.
+pub record Refuses (image : List ℕ) (n place : ℕ) : Type 0 where
+  pub least : 1 ≤ n
+  pub most : n ≤ 8
+  pub inside : place ≤ length image
+  pub small : place ≤ 16384
+
+-- What is said of an image: it stands for a grammar, or it is refused.
 pub data Said (image : List ℕ) : Checked → Type 0 where
   stands : {g : Grammar} → Stands image g → Said image (good g)
-  refuses : {n place : ℕ} → (1 ≤ n) × (n ≤ 8) × (place ≤ length image) → Said image (refused n place)
+  refuses : {n place : ℕ} → Refuses image n place → Said image (refused n place)
 
 module _ (image : List ℕ) (bytes : Bytes image) where
   at-end : (short : length image ≤ 16384) {g : Grammar} {at : ℕ} → Whole image bytes g at → (t : Bool) → ltb at (length image) ≡ t → Said image (pick t (refused 8 at) (good g))
-  at-end short {g} {at} w true e = refuses (eight (w .on .within))
-    where
-      eight : at ≤ length image → (1 ≤ 8) × (8 ≤ 8) × (at ≤ length image)
-      eight h = (omega arith, omega arith, h)
+  at-end short {g} {at} w true e = refuses {n = 8} {place = at} (omega (arith, w .on .within))
   at-end short {g} {at} w false e = stands (record {
     sound = w .sound;
     writing = sym (w .on .front) ∙ take-all at image (ltb-false at (length image) e);
@@ -48,24 +52,21 @@ module _ (image : List ℕ) (bytes : Bytes image) where
   pub said : Said image (readImage image)
   said = whole (ltb 16384 (length image)) refl
     where
-      later : {n place : ℕ} → Refusal (length image) n place → (1 ≤ n) × (n ≤ 8) × (place ≤ length image)
-      later r = omega arith
-
-      first : (1 ≤ 1) × (1 ≤ 8) × (0 ≤ length image)
-      first = omega arith
+      later : {n place : ℕ} → length image ≤ 16384 → Refusal (length image) n place → Refuses image n place
+      later short r = omega arith
 
       go : length image ≤ 16384 → {r : Reading Grammar} → All (Whole image bytes) (Refusal (length image)) r → Said image (ended image r)
       go short (holds {x = g} {next = at} w) = at-end short w (ltb at (length image)) refl
-      go short (stops h) = refuses (later h)
+      go short (stops h) = refuses (later short h)
 
       whole : (t : Bool) → ltb 16384 (length image) ≡ t → Said image (pick t (refused 1 0) (ended image (headAt image then bodyAt image)))
-      whole true e = refuses first
+      whole true e = refuses {n = 1} {place = 0} (omega arith)
       whole false e = go (ltb-false 16384 (length image) e) (body-all image bytes)
 
 of-good : {image : List ℕ} {g : Grammar} → Said image (good g) → Stands image g
 of-good (stands h) = h
 
-of-refused : {image : List ℕ} {n place : ℕ} → Said image (refused n place) → (1 ≤ n) × (n ≤ 8) × (place ≤ length image)
+of-refused : {image : List ℕ} {n place : ℕ} → Said image (refused n place) → Refuses image n place
 of-refused (refuses h) = h
 
 read-back : (image : List ℕ) (g : Grammar) → Stands image g → readImage image ≡ good g
@@ -77,8 +78,7 @@ read-back image g s =
 pub exact : (image : List ℕ) → Bytes image → (g : Grammar) → (readImage image ≡ good g) ↔ Stands image g
 exact image bytes g = ((λ e. of-good (rw e at (said image bytes))), read-back image g)
 
--- A refusal is one of 1 to 8, never 0, and its place is in the image or at its end.
-pub refusal : (image : List ℕ) → Bytes image → (n place : ℕ) → readImage image ≡ refused n place → (1 ≤ n) × (n ≤ 8) × (place ≤ length image)
+pub refusal : (image : List ℕ) → Bytes image → (n place : ℕ) → readImage image ≡ refused n place → Refuses image n place
 refusal image bytes n place e = of-refused (rw e at (said image bytes))
 
 -- ## The numbers by themselves

@@ -13,9 +13,9 @@ use Rattle.image.proofs.operands.word_at.Tie as tie
 -- What is read after the tag is what is read at the place.
 whole : (c : tie.After-known-told) {x : Reading ℕ}
     → (let a = c .before .before .before .before .before .args in let t = c .before .r .given .0 .0 in
-      x ≡ operandsAt (a .image .now) (a .tables) (a .conditions) (a .nodes) (a .own) (t .value) (t .next))
+    x ≡ operandsAt (a .image .now) (a .tables) (a .conditions) (a .nodes) (a .own) (t .value) (t .next))
     → (let a = c .before .before .before .before .before .args in
-      x ≡ wordAt (a .image .now) (a .tables) (a .conditions) (a .nodes) (a .own) (a .at))
+    x ≡ wordAt (a .image .now) (a .tables) (a .conditions) (a .nodes) (a .own) (a .at))
 whole c e =
     let a = c .before .before .before .before .before .args in
     e ∙ goes (operandsAt (a .image .now) (a .tables) (a .conditions) (a .nodes) (a .own)) (c .before .before .before .bounded .ensures) (c .before .r .given .1)

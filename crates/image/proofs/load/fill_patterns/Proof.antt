@@ -1,0 +1,78 @@
+-- `fill_patterns` meets its promise. The loop's invariant: what is still to be read and put down gives what the whole gives.
+-- The measure is what is left to read. Assumes nothing.
+use Prim.Native.Nat.{_+_, _-_}
+use borrow.Author.Needs.{needs}
+use native.Mathlib.Omega.{arith}
+use Rattle.image.proofs.FillLaws.{put-down, refused-at, all-down}
+use Rattle.image.specs.FilledLaws.{Filling, filling-starts}
+use Rattle.image.specs.Image.{number}
+use Rattle.image.proofs.load.fill_patterns.Statement.{statement}
+use Rattle.image.proofs.load.fill_patterns.Tie as tie
+
+abbrev Inv-loop : tie.InvT-loop
+Inv-loop image code₀ start tables nodes t₀ at₀ code t at = Filling (λ t. number image 7 0 nodes) 512 tables start code₀ code t at
+
+abbrev μ-loop : tie.MeasureT-loop
+μ-loop image code₀ start tables nodes t₀ at₀ code t at = tables - t
+
+loop-holds : tie.Need-loop-holds Inv-loop μ-loop
+loop-holds c = let a = c .before .args in filling-starts (λ t. number (a .image .now) 7 0 (a .nodes)) 512 (a .tables) (a .start) (a .code .now)
+
+bounded-requires : tie.Need-bounded-requires Inv-loop μ-loop
+bounded-requires c κs = omega arith
+
+enum-known-r : tie.Need-enum-known-r Inv-loop μ-loop
+enum-known-r c = search needs
+
+enum-told : tie.Need-enum-told Inv-loop μ-loop
+enum-told c = search needs
+
+returns : tie.Need-returns Inv-loop μ-loop
+returns c = let a = c .before .before .before .before .before .before .args in
+    refused-at (λ t. number (a .image .now) 7 0 (a .nodes)) 512 (a .tables) (c .before .before .before .before .loop .inv) (omega arith) (c .before .before .bounded .result) (c .before .match .keys2) (c .before .before .bounded .ensures)
+
+add-code : tie.Need-add-code Inv-loop μ-loop
+add-code c = search needs
+
+cast-code : tie.Need-cast-code Inv-loop μ-loop
+cast-code c = search needs
+
+mul-code : tie.Need-mul-code Inv-loop μ-loop
+mul-code c = search needs
+
+element-write-code : tie.Need-element-write-code Inv-loop μ-loop
+element-write-code c = search needs
+
+add-t : tie.Need-add-t Inv-loop μ-loop
+add-t c = search needs
+
+loop-less : tie.Need-loop-less Inv-loop μ-loop
+loop-less c = search needs
+
+loop-again : tie.Need-loop-again Inv-loop μ-loop
+loop-again c = let a = c .before .before .before .before .before .before .before .args in
+    put-down (λ t. number (a .image .now) 7 0 (a .nodes)) 512 (a .tables) (c .before .before .before .before .before .loop .inv) (512 + c .before .before .before .before .before .loop .t) (omega arith) (omega arith) (c .before .before .before .bounded .ensures) (c .before .r .given .1)
+
+returns-2 : tie.Need-returns-2 Inv-loop μ-loop
+returns-2 c = let a = c .before .before .before .args in
+    all-down (λ t. number (a .image .now) 7 0 (a .nodes)) 512 (a .tables) (c .before .loop .inv) (omega arith)
+
+pub fill-patterns-spec : {M : Type 1} → statement M
+fill-patterns-spec =
+    tie.close
+    (tie.spec
+    Inv-loop
+    μ-loop
+    loop-holds
+    bounded-requires
+    enum-known-r
+    enum-told
+    returns
+    add-code
+    cast-code
+    mul-code
+    element-write-code
+    add-t
+    loop-less
+    loop-again
+    returns-2)
