@@ -4,3 +4,5 @@ pub mod ReadLaws
 pub mod ShapeLaws
 pub mod FillLaws
 pub mod HeadLaws
+pub mod WalkLaws
+pub mod VerdictLaws

@@ -41,11 +41,12 @@ module _ (p : ℕ → ℕ → Reading ℕ) (to N : ℕ) where
     unfolding rest
     filling-more h {w} {next} e =
         let left : N - i ≡ suc (N - suc i) = omega arith in
-        record
-          { on = omega arith
-          ; result = rw (add-one i) (sym (then-assoc (times p (suc i) (N - suc i) next) (λ xs at. got (w ∷ xs) at) (counted N))
-              ∙ one-read i (N - suc i) at e ∙ rw left at (f .result))
-          ; array = rw (add-one i) (one-down i (N - suc i) at now e ∙ rw left at (f .array)) }
+        record {
+          on = omega arith;
+          result = rw (add-one i) (sym (then-assoc (times p (suc i) (N - suc i) next) (λ xs at. got (w ∷ xs) at) (counted N))
+              ∙ one-read i (N - suc i) at e ∙ rw left at (f .result));
+          array = rw (add-one i) (one-down i (N - suc i) at now e ∙ rw left at (f .array));
+        }
 
     -- One cannot be read.
     pub filling-stops : i < N → {n place : ℕ} → fault n place ≡ p i at → (fault n place ≡ (times p 0 N start then counted N)) × (now ≡ filling p to 0 N start before)

@@ -25,15 +25,20 @@ use Rattle.image.specs.Filled.{unless, filling, filled, withPatterns, wi
 use Rattle.image.specs.FilledLaws.{filling-at, filling-other, filling-length}
 
 -- The first of two readings that gave something.
-record Through {A B : Type 0} (r : Reading A) (k : A → ℕ → Reading B) (y : B) (end : ℕ) : Type 0 where
+pub record Through {A B : Type 0} (r : Reading A) (k : A → ℕ → Reading B) (y : B) (end : ℕ) : Type 0 where
   pub value : A
   pub next : ℕ
   pub first : r ≡ got value next
   pub rest : k value next ≡ got y end
 
-through : {A B : Type 0} (r : Reading A) (k : A → ℕ → Reading B) {y : B} {end : ℕ} → (r then k) ≡ got y end → Through r k y end
+pub through : {A B : Type 0} (r : Reading A) (k : A → ℕ → Reading B) {y : B} {end : ℕ} → (r then k) ≡ got y end → Through r k y end
 through (got x at) k e = record { value = x; next = at; first = refl; rest = e }
 through (fault n place) k e = let z : _≡_ {A = ℕ} 0 1 = cc in absurd (omega arith)
+
+-- Where the second of two readings always gives something, a fault is the first one's.
+pub through-fault : {A B : Type 0} (r : Reading A) (f : A → ℕ → B) {n place : ℕ} → (r then λ x next. got (f x next) next) ≡ fault n place → r ≡ fault n place
+through-fault (got x at) f e = let z : _≡_ {A = ℕ} 0 1 = cc in absurd (omega arith)
+through-fault (fault n place) f e = cc
 
 -- The reading behind a good image.
 record Body (image : List ℕ) (g : Grammar) : Type 0 where
@@ -56,8 +61,12 @@ body-of image g e = whole (ltb 16384 (length image)) refl e
     whole true q e = let z : _≡_ {A = ℕ} 0 1 = cc in absurd (omega arith)
     whole false q e = read (ltb-false 16384 (length image) q) (headAt image then bodyAt image) refl e
 
-abbrev made : Head → List ℕ → List Expr → ℕ → Reading Grammar
+-- What is left to read after the patterns, and after the nodes.
+abbrev pub made : Head → List ℕ → List Expr → ℕ → Reading Grammar
 made h patterns nodes at = got (record { conditions = h .conditions; start = h .start; patterns = patterns; nodes = nodes }) at
+
+abbrev pub afterPatterns : (image : List ℕ) → Head → List ℕ → ℕ → Reading Grammar
+afterPatterns image h patterns at = nodesAt image h at then made h patterns
 
 -- The parts of a good image, in the order in which they are read.
 record Parts (image : List ℕ) (g : Grammar) : Type 0 where
@@ -77,20 +86,28 @@ parts-of : (image : List ℕ) (g : Grammar) → readImage image ≡ good g → P
 parts-of image g e =
     let b = body-of image g e in
     let h = through (headAt image) (bodyAt image) (b .is) in
-    let p = through (patternsAt image (h .value) (h .next)) (λ ps at. nodesAt image (h .value) at then made (h .value) ps) (h .rest) in
+    let p = through (patternsAt image (h .value) (h .next)) (afterPatterns image (h .value)) (h .rest) in
     let n = through (nodesAt image (h .value) (p .next)) (made (h .value) (p .value)) (p .rest) in
-    record
-      { short = b .short; head = h .value; at = h .next; head-is = h .first
-      ; patterns = p .value; next = p .next; patterns-are = p .first
-      ; nodes = n .value; end = n .next; nodes-are = n .first
-      ; whole = cc (n .rest) }
+    record {
+      short = b .short;
+      head = h .value;
+      at = h .next;
+      head-is = h .first;
+      patterns = p .value;
+      next = p .next;
+      patterns-are = p .first;
+      nodes = n .value;
+      end = n .next;
+      nodes-are = n .first;
+      whole = cc (n .rest);
+    }
 
 whatever : {A : Type 0} (r : Reading A) → All (λ x next. Unit {0}) (λ n place. Unit {0}) r
 whatever (got x next) = holds tt
 whatever (fault n place) = stops tt
 
 -- So many readings give so many values.
-times-count : {A : Type 0} (p : ℕ → ℕ → Reading A) (i k at : ℕ) → All (λ xs next. length xs ≡ k) (λ n place. Unit {0}) (times p i k at)
+pub times-count : {A : Type 0} (p : ℕ → ℕ → Reading A) (i k at : ℕ) → All (λ xs next. length xs ≡ k) (λ n place. Unit {0}) (times p i k at)
 times-count p i zero at = holds refl
 times-count p i (suc k) at = whatever (p i at) ▹ λ x at _. times-count p (suc i) k at ▹ λ xs at e. holds (ap suc e)
 
@@ -111,10 +128,11 @@ module _ (image : List ℕ) (bytes : Bytes image) (short : length image ≤ 1638
 
   -- The bytes of a Text stand right before the place where its node ends.
   placed : (x : Expr) (u : List ℕ) {next : ℕ} → Front image (u ++ encodeNode x) next → Placed image x next
-  placed x u {next} f s e =
-      ( omega (arith, f .within)
-      , text-placed (u ++ numbers (4 ∷ length s ∷ [])) s next
-          (f .front ∙ ap (λ x. u ++ encodeNode x) e ∙ sym (append-assoc u (numbers (4 ∷ length s ∷ [])) s)) (f .within))
+  placed x u {next} f s e = (
+    omega (arith, f .within),
+    text-placed (u ++ numbers (4 ∷ length s ∷ [])) s next
+        (f .front ∙ ap (λ x. u ++ encodeNode x) e ∙ sym (append-assoc u (numbers (4 ∷ length s ∷ [])) s)) (f .within),
+  )
 
   module _ (T C N : ℕ) (few : (T ≤ 512) × (C ≤ 512) × (N ≤ 512)) where
     abbrev Read : (i k at : ℕ) → Type 0
@@ -136,7 +154,7 @@ module _ (image : List ℕ) (bytes : Bytes image) (short : length image ≤ 1638
 
         one : (r : Reading Expr) → All (One image (Fits T C N i) encodeNode u) (Refusal (length image)) r → ((x : Expr) (next : ℕ) → One image (Fits T C N i) encodeNode u x next → Read (suc i) k next)
             → (((r then keep) then λ x at. times (wordAt image T C N) (suc i) k at then λ xs at. got (x ∷ xs) at) then λ ws next. got (map (visited image) ws) next)
-              ≡ (r then λ x at. times (nodeAt image T C N) (suc i) k at then λ xs at. got (x ∷ xs) at)
+            ≡ (r then λ x at. times (nodeAt image T C N) (suc i) k at then λ xs at. got (x ∷ xs) at)
         one (got x next) (holds o) later =
             more x next (same x next o) (times (wordAt image T C N) (suc i) k next)
             ∙ ap (λ r. r then λ xs at. got (x ∷ xs) at) (later x next o)
@@ -165,7 +183,7 @@ module _ (image : List ℕ) (bytes : Bytes image) (before : List ℕ) (room : le
         let here : Front image (take next image) next = record { front = refl; within = patterns-read .on .within } in
         let r = head-read in
         let t = through (times words 0 N next) (λ ws next. got (map (visited image) ws) next)
-                (words-read image bytes short T C N (omega arith) 0 N next (take next image) (omega arith) here ∙ ex) in
+        (words-read image bytes short T C N (omega arith) 0 N next (take next image) (omega arith) here ∙ ex) in
         let same : map (visited image) (t .value) ≡ xs = cc (t .rest) in
         let count : length xs ≡ N = of-got (rw ex at (times-count (nodeAt image T C N) 0 N next)) in
         let own : 0 + (0 + n) ≡ n = omega arith in

@@ -123,6 +123,7 @@ fn fill_nodes(
 
 // Checks an image and puts down its nodes and patterns: a node's word at its number, a table's pattern at 512 and its number.
 pub fn load(image: &[u8], code: &mut [u32; 520]) -> Loaded
+    requires { ⌜ length (now code) ≡ 520 ⌝ }
     ensures { λ r. ⌜ Loads (now (image .entry)) (now (code .entry)) (now (code .exit)) r ⌝ }
 {
     if 16384 < image.len() {

@@ -1,0 +1,95 @@
+-- `load` meets its promise: by how far the walk came. Assumes nothing.
+use mathlib.Core.Path.{_≡_, ap, sym, _∙_}
+use native.Mathlib.Omega.{arith}
+use Rattle.grammar.specs.Sound.{Bytes}
+use Rattle.image.proofs.HeadLaws.{few}
+use Rattle.image.proofs.WalkLaws.{promised, putting, too-long, no-head, no-patterns, no-nodes, left-over, all-good}
+use Rattle.image.specs.Filled.{filling}
+use Rattle.image.specs.Meant.{reading, heading}
+use Rattle.image.specs.Word.{wordAt}
+use borrow.Author.Needs.{needs}
+use Rattle.image.proofs.load.load.Statement.{statement}
+use Rattle.image.proofs.load.load.Tie as tie
+
+-- The image is a list of bytes.
+bytes : (c : tie.After-shared-slice-known) → Bytes (c .before .args .image .now)
+bytes c i = omega (arith, c .shared-slice-known .given i)
+
+returns : tie.Need-returns
+returns c = let a = c .before .before .args in promised (bytes (c .before)) (c .before .before .pre) (too-long (a .image .now) (a .code .now) (omega arith))
+
+head-of-requires : tie.Need-head-of-requires
+head-of-requires c κs = search needs
+
+enum-known-r : tie.Need-enum-known-r
+enum-known-r c = search needs
+
+enum-known-r-2 : tie.Need-enum-known-r-2
+enum-known-r-2 c = search needs
+
+returns-2 : tie.Need-returns-2
+returns-2 c = let a = c .before .before .before .before .before .before .args in
+    promised (bytes (c .before .before .before .before .before)) (c .before .before .before .before .before .before .pre)
+    (no-head (a .image .now) (a .code .now) (omega arith) (sym (ap heading (c .before .r2 .given .1)) ∙ c .before .before .before .head-of .ensures))
+
+fill-patterns-requires : tie.Need-fill-patterns-requires
+fill-patterns-requires c κs = omega (arith, few (c .before .before .before .before .before .before .before .args .image .now) (sym (ap heading (c .before .before .r .given .1)) ∙ c .before .before .before .before .head-of .ensures))
+
+enum-known-r-3 : tie.Need-enum-known-r-3
+enum-known-r-3 c = search needs
+
+enum-known-r-4 : tie.Need-enum-known-r-4
+enum-known-r-4 c = search needs
+
+returns-3 : tie.Need-returns-3
+returns-3 c = let a = c .before .before .before .before .before .before .before .before .before .before .before .args in
+    promised (bytes (c .before .before .before .before .before .before .before .before .before .before)) (c .before .before .before .before .before .before .before .before .before .before .before .pre)
+    (putting (c .before .before .before .fill-patterns .ensures .array)
+    (no-patterns (a .image .now) (a .code .now) (omega arith) (sym (ap heading (c .before .before .before .before .before .before .r .given .1)) ∙ c .before .before .before .before .before .before .before .before .head-of .ensures) (sym (ap reading (c .before .r4 .given .1)) ∙ c .before .before .before .fill-patterns .ensures .result)))
+
+fill-nodes-requires : tie.Need-fill-nodes-requires
+fill-nodes-requires c κs = omega (arith, few (c .before .before .before .before .before .before .before .before .before .before .before .before .args .image .now) (sym (ap heading (c .before .before .before .before .before .before .before .r .given .1)) ∙ c .before .before .before .before .before .before .before .before .before .head-of .ensures))
+
+enum-known-r-5 : tie.Need-enum-known-r-5
+enum-known-r-5 c = search needs
+
+enum-known-r-6 : tie.Need-enum-known-r-6
+enum-known-r-6 c = search needs
+
+returns-4 : tie.Need-returns-4
+returns-4 c = let a = c .before .before .before .before .before .before .before .before .before .before .before .before .before .before .before .before .args in let h = c .before .before .before .before .before .before .before .before .before .before .before .r .given .0 .0 in
+    promised (bytes (c .before .before .before .before .before .before .before .before .before .before .before .before .before .before .before)) (c .before .before .before .before .before .before .before .before .before .before .before .before .before .before .before .before .pre)
+    (putting (c .before .before .before .fill-nodes .ensures .array ∙ ap (λ l. filling (wordAt (a .image .now) (h .tables) (h .conditions) (h .nodes)) 0 0 (h .nodes) (c .before .before .before .before .before .before .r3 .given .0 .0 .next) l) (c .before .before .before .before .before .before .before .before .fill-patterns .ensures .array))
+    (no-nodes (a .image .now) (a .code .now) (omega arith) (sym (ap heading (c .before .before .before .before .before .before .before .before .before .before .before .r .given .1)) ∙ c .before .before .before .before .before .before .before .before .before .before .before .before .before .head-of .ensures) (sym (ap reading (c .before .before .before .before .before .before .r3 .given .1)) ∙ c .before .before .before .before .before .before .before .before .fill-patterns .ensures .result) (sym (ap reading (c .before .r6 .given .1)) ∙ c .before .before .before .fill-nodes .ensures .result)))
+
+returns-5 : tie.Need-returns-5
+returns-5 c = let a = c .before .before .before .before .before .before .before .before .before .before .before .before .before .before .before .before .before .before .args in let h = c .before .before .before .before .before .before .before .before .before .before .before .before .before .r .given .0 .0 in
+    promised (bytes (c .before .before .before .before .before .before .before .before .before .before .before .before .before .before .before .before .before)) (c .before .before .before .before .before .before .before .before .before .before .before .before .before .before .before .before .before .before .pre)
+    (putting (c .before .before .before .before .before .fill-nodes .ensures .array ∙ ap (λ l. filling (wordAt (a .image .now) (h .tables) (h .conditions) (h .nodes)) 0 0 (h .nodes) (c .before .before .before .before .before .before .before .before .r3 .given .0 .0 .next) l) (c .before .before .before .before .before .before .before .before .before .before .fill-patterns .ensures .array))
+    (left-over (a .image .now) (a .code .now) (omega arith) (sym (ap heading (c .before .before .before .before .before .before .before .before .before .before .before .before .before .r .given .1)) ∙ c .before .before .before .before .before .before .before .before .before .before .before .before .before .before .before .head-of .ensures) (sym (ap reading (c .before .before .before .before .before .before .before .before .r3 .given .1)) ∙ c .before .before .before .before .before .before .before .before .before .before .fill-patterns .ensures .result) (sym (ap reading (c .before .before .before .r5 .given .1)) ∙ c .before .before .before .before .before .fill-nodes .ensures .result) (omega arith)))
+
+returns-6 : tie.Need-returns-6
+returns-6 c = let a = c .before .before .before .before .before .before .before .before .before .before .before .before .before .before .before .before .before .before .args in let h = c .before .before .before .before .before .before .before .before .before .before .before .before .before .r .given .0 .0 in
+    promised (bytes (c .before .before .before .before .before .before .before .before .before .before .before .before .before .before .before .before .before)) (c .before .before .before .before .before .before .before .before .before .before .before .before .before .before .before .before .before .before .pre)
+    (putting (c .before .before .before .before .before .fill-nodes .ensures .array ∙ ap (λ l. filling (wordAt (a .image .now) (h .tables) (h .conditions) (h .nodes)) 0 0 (h .nodes) (c .before .before .before .before .before .before .before .before .r3 .given .0 .0 .next) l) (c .before .before .before .before .before .before .before .before .before .before .fill-patterns .ensures .array))
+    (all-good (a .image .now) (a .code .now) (omega arith) (sym (ap heading (c .before .before .before .before .before .before .before .before .before .before .before .before .before .r .given .1)) ∙ c .before .before .before .before .before .before .before .before .before .before .before .before .before .before .before .head-of .ensures) (sym (ap reading (c .before .before .before .before .before .before .before .before .r3 .given .1)) ∙ c .before .before .before .before .before .before .before .before .before .before .fill-patterns .ensures .result) (sym (ap reading (c .before .before .before .r5 .given .1)) ∙ c .before .before .before .before .before .fill-nodes .ensures .result) (omega arith)))
+
+pub load-spec : {M : Type 1} → statement M
+load-spec =
+    tie.close
+    (tie.spec
+    returns
+    head-of-requires
+    enum-known-r
+    enum-known-r-2
+    returns-2
+    fill-patterns-requires
+    enum-known-r-3
+    enum-known-r-4
+    returns-3
+    fill-nodes-requires
+    enum-known-r-5
+    enum-known-r-6
+    returns-4
+    returns-5
+    returns-6)
