@@ -18,3 +18,4 @@ pub mod Meant
 pub mod Filled
 pub mod FilledLaws
 pub mod LoadLaws
+pub mod Unique

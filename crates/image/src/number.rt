@@ -57,20 +57,20 @@ fn second_group(image: &[u8], at: usize, low: u32) -> Read
             place: end,
         });
     }
-    let b = wide(image[at + 1]);
-    if b == 0 {
+    let b1 = wide(image[at + 1]);
+    if b1 == 0 {
         return Read::Refused(Refusal {
             number: 3,
             place: at,
         });
     }
-    if b < 128 {
+    if b1 < 128 {
         return Read::Got(Number {
-            value: low + b * 128,
+            value: low + b1 * 128,
             next: at + 2,
         });
     }
-    third_group(image, at, low + (b - 128) * 128)
+    third_group(image, at, low + (b1 - 128) * 128)
 }
 
 // The same, two groups having been read. A third that still continues is one too many.
@@ -85,16 +85,16 @@ fn third_group(image: &[u8], at: usize, low: u32) -> Read
             place: end,
         });
     }
-    let b = wide(image[at + 2]);
-    if b == 0 {
+    let b2 = wide(image[at + 2]);
+    if b2 == 0 {
         return Read::Refused(Refusal {
             number: 3,
             place: at,
         });
     }
-    if b < 128 {
+    if b2 < 128 {
         return Read::Got(Number {
-            value: low + b * 16384,
+            value: low + b2 * 16384,
             next: at + 3,
         });
     }

@@ -53,9 +53,9 @@ fn range_operands(image: &[u8], at: usize) -> Read
     let Read::Got(lo) = r else {
         return r;
     };
-    let s = bounded(image, lo.next, lo.value, 256, 7);
-    let Read::Got(hi) = s else {
-        return s;
+    let h = bounded(image, lo.next, lo.value, 256, 7);
+    let Read::Got(hi) = h else {
+        return h;
     };
     Read::Got(Number {
         value: word(2, lo.value, hi.value),

@@ -23,8 +23,8 @@ returns c = stays (c .before .before .bounded .result) (c .before .match .keys2)
 bounded-requires-2 : tie.Need-bounded-requires-2
 bounded-requires-2 c κs = search needs
 
-enum-known-s : tie.Need-enum-known-s
-enum-known-s c = search needs
+enum-known-h : tie.Need-enum-known-h
+enum-known-h c = search needs
 
 enum-told-2 : tie.Need-enum-told-2
 enum-told-2 c = search needs
@@ -35,11 +35,11 @@ returns-2 c = stays (c .before .before .bounded2 .result) (c .before .match2 .ke
 
 word-requires : tie.Need-word-requires
 word-requires c κs = let a = c .before .before .before .before .before .before .before .before .before .args in let lo = c .before .before .before .before .before .r .given .0 .0 in
-    omega (arith, under (a .image .now) 7 0 256 (a .at) (c .before .before .before .before .before .before .before .bounded .ensures) (c .before .before .before .before .before .r .given .1), under (a .image .now) 7 (lo .value) 256 (lo .next) (c .before .before .before .bounded2 .ensures) (c .before .s .given .1))
+    omega (arith, under (a .image .now) 7 0 256 (a .at) (c .before .before .before .before .before .before .before .bounded .ensures) (c .before .before .before .before .before .r .given .1), under (a .image .now) 7 (lo .value) 256 (lo .next) (c .before .before .before .bounded2 .ensures) (c .before .h .given .1))
 
 returns-3 : tie.Need-returns-3
-returns-3 c = ap (λ w. got w (c .before .before .s .given .0 .0 .next)) (c .word .ensures)
-    ∙ goes (word2 2 (c .before .before .before .before .before .before .r .given .0 .0 .value)) (c .before .before .before .before .bounded2 .ensures) (c .before .before .s .given .1)
+returns-3 c = ap (λ w. got w (c .before .before .h .given .0 .0 .next)) (c .word .ensures)
+    ∙ goes (word2 2 (c .before .before .before .before .before .before .r .given .0 .0 .value)) (c .before .before .before .before .bounded2 .ensures) (c .before .before .h .given .1)
     ∙ goes (highAt (c .before .before .before .before .before .before .before .before .before .before .args .image .now)) (c .before .before .before .before .before .before .before .before .bounded .ensures) (c .before .before .before .before .before .before .r .given .1)
 
 pub range-operands-spec : {M : Type 1} → statement M
@@ -51,7 +51,7 @@ range-operands-spec =
     enum-told
     returns
     bounded-requires-2
-    enum-known-s
+    enum-known-h
     enum-told-2
     returns-2
     word-requires

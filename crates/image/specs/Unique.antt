@@ -1,0 +1,56 @@
+-- Two outcomes that a promise permits are equal.
+use Prim.Native.Nat.{ℕ}
+use mathlib.Core.Path.{_≡_, refl, ap, sym, _∙_}
+use mathlib.Core.List.{List}
+use native.Mathlib.Omega.{arith}
+use Rattle.image.specs.declared.number.Read.{Read}
+use Rattle.image.specs.declared.number.Read.the-variants.{Got, Refused}
+use Rattle.image.specs.declared.load.Head as code
+use Rattle.image.specs.declared.load.Header.{Header}
+use Rattle.image.specs.declared.load.Header.the-variants.{Found, Refused as NoHead}
+use Rattle.image.specs.declared.load.Loaded.{Loaded}
+use Rattle.image.specs.declared.load.Verdict.{Verdict}
+use Rattle.image.specs.Reading.{Reading, got, fault}
+use Rattle.image.specs.Image.{Head, readImage}
+use Rattle.image.specs.Filled.{Fills, Loads}
+use Rattle.image.specs.Meant.{reading, heading, verdict}
+
+-- `number_at`, `bounded`, `word_at` and every function that reads operands: each promises `reading r ≡ x`.
+pub one-reading : (r s : Read) {x : Reading ℕ} → reading r ≡ x → reading s ≡ x → r ≡ s
+one-reading r s e f = same r s (e ∙ sym f)
+  where
+    same : (r s : Read) → reading r ≡ reading s → r ≡ s
+    same (Got m) (Got n) e =
+        let value : m .value ≡ n .value = cc in let next : m .next ≡ n .next = cc in λ i. Got (record { value = value i; next = next i })
+    same (Got m) (Refused f) e = let z : _≡_ {A = ℕ} 0 1 = cc in absurd (omega arith)
+    same (Refused f) (Got n) e = let z : _≡_ {A = ℕ} 0 1 = cc in absurd (omega arith)
+    same (Refused f) (Refused g) e =
+        let number : f .number ≡ g .number = cc in let place : f .place ≡ g .place = cc in λ i. Refused (record { number = number i; place = place i })
+
+-- `head_of`: it promises `heading r ≡ x`.
+pub one-heading : (r s : Header) {x : Reading Head} → heading r ≡ x → heading s ≡ x → r ≡ s
+one-heading r s e f = same r s (e ∙ sym f)
+  where
+    said : code.Head → Head
+    said h = record { tables = h .tables; conditions = h .conditions; nodes = h .nodes; start = h .start }
+
+    same : (r s : Header) → heading r ≡ heading s → r ≡ s
+    same (Found h) (Found k) e =
+        let head : said h ≡ said k = cc in let next : h .next ≡ k .next = cc in
+        λ i. Found (record { tables = head i .tables; conditions = head i .conditions; nodes = head i .nodes; start = head i .start; next = next i })
+    same (Found h) (NoHead g) e = let z : _≡_ {A = ℕ} 0 1 = cc in absurd (omega arith)
+    same (NoHead f) (Found k) e = let z : _≡_ {A = ℕ} 0 1 = cc in absurd (omega arith)
+    same (NoHead f) (NoHead g) e =
+        let number : f .number ≡ g .number = cc in let place : f .place ≡ g .place = cc in λ i. NoHead (record { number = number i; place = place i })
+
+-- `fill_patterns` and `fill_nodes`: what is read and what the array holds.
+pub one-filling : {p : ℕ → ℕ → Reading ℕ} {to k at : ℕ} {before after after' : List ℕ} {r r' : Read} → Fills p to k at before after r → Fills p to k at before after' r' → (r ≡ r') × (after ≡ after')
+one-filling {r = r} {r' = r'} f g = (one-reading r r' (f .result) (g .result), f .array ∙ sym (g .array))
+
+-- `load`: what is said and what the array holds, after a refusal too.
+pub one-loading : {image before after after' : List ℕ} {r r' : Loaded} → Loads image before after r → Loads image before after' r' → (r ≡ r') × (after ≡ after')
+one-loading f g = (f .answer ∙ sym (g .answer), f .array ∙ sym (g .array))
+
+-- `check`, and likewise `node_of` and `word`: each promises `r ≡ x`.
+pub one-verdict : {A : Type 0} {r r' x : A} → r ≡ x → r' ≡ x → r ≡ r'
+one-verdict e f = e ∙ sym f
