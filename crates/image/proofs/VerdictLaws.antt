@@ -5,11 +5,11 @@ use mathlib.Core.List.{List}
 use native.Mathlib.Omega.{arith}
 use denote.Enum.Declared.{tagOf}
 use Rattle.grammar.specs.Sound.{Bytes}
-use Rattle.image.proofs.load.Loaded.{the-type}
+use Rattle.image.proofs.walk.Loaded.{the-type}
 use Rattle.image.specs.declared.number.Refusal.{Refusal}
-use Rattle.image.specs.declared.load.Loaded.{Loaded}
-use Rattle.image.specs.declared.load.Loaded.the-variants.{Good, Refused}
-use Rattle.image.specs.declared.load.Verdict.{Verdict}
+use Rattle.image.specs.declared.walk.Loaded.{Loaded}
+use Rattle.image.specs.declared.walk.Loaded.the-variants.{Good, Refused}
+use Rattle.image.specs.declared.walk.Verdict.{Verdict}
 use Rattle.image.specs.Image.{Checked, good, refused, readImage}
 use Rattle.image.specs.RoundTrip.{refusal}
 use Rattle.image.specs.Meant.{answered, verdict}

@@ -9,8 +9,8 @@ use borrow.Author.Tests.{lt-ltb, le-ltb}
 use Rattle.grammar.specs.Expr.{Expr}
 use Rattle.grammar.specs.Grammar.{Grammar}
 use Rattle.grammar.specs.Sound.{Bytes}
-use Rattle.image.specs.declared.load.Loaded.{Loaded}
-use Rattle.image.specs.declared.load.Loaded.the-variants.{Good, Refused}
+use Rattle.image.specs.declared.walk.Loaded.{Loaded}
+use Rattle.image.specs.declared.walk.Loaded.the-variants.{Good, Refused}
 use Rattle.image.specs.Reading.{Reading, got, fault, pick, _then_}
 use Rattle.image.specs.ReadingLaws.{onward, then-assoc, of-got}
 use Rattle.image.specs.Image.{times, Head, number, nodeAt, headAt, patternsAt, nodesAt, bodyAt, Checked, good, refused, ended, readImage}

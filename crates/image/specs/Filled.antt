@@ -7,7 +7,7 @@ use lib.Dec.{ltb}
 use lib.ListN.{length, getD, set}
 use Rattle.grammar.specs.Grammar.{Grammar, tables, size, node, pattern}
 use Rattle.image.specs.declared.number.Read.{Read}
-use Rattle.image.specs.declared.load.Loaded.{Loaded}
+use Rattle.image.specs.declared.walk.Loaded.{Loaded}
 use Rattle.image.specs.Reading.{Reading, got, fault, pick, _then_}
 use Rattle.image.specs.Image.{times, Head, number, headAt, patternsAt, Checked, good, readImage}
 use Rattle.image.specs.Word.{wordAt}

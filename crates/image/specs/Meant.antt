@@ -3,11 +3,11 @@ use Prim.Native.Nat.{ℕ}
 use Rattle.grammar.specs.Grammar.{tables, size}
 use Rattle.image.specs.declared.number.Read.{Read}
 use Rattle.image.specs.declared.number.Read.the-variants.{Got, Refused}
-use Rattle.image.specs.declared.load.Header.{Header}
-use Rattle.image.specs.declared.load.Header.the-variants.{Found, Refused as NoHead}
-use Rattle.image.specs.declared.load.Loaded.{Loaded}
-use Rattle.image.specs.declared.load.Loaded.the-variants.{Good, Refused as Bad}
-use Rattle.image.specs.declared.load.Verdict.{Verdict}
+use Rattle.image.specs.declared.walk.Header.{Header}
+use Rattle.image.specs.declared.walk.Header.the-variants.{Found, Refused as NoHead}
+use Rattle.image.specs.declared.walk.Loaded.{Loaded}
+use Rattle.image.specs.declared.walk.Loaded.the-variants.{Good, Refused as Bad}
+use Rattle.image.specs.declared.walk.Verdict.{Verdict}
 use Rattle.image.specs.Reading.{Reading, got, fault}
 use Rattle.image.specs.Image.{Head, Checked, good, refused}
 

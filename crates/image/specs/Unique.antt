@@ -5,11 +5,11 @@ use mathlib.Core.List.{List}
 use native.Mathlib.Omega.{arith}
 use Rattle.image.specs.declared.number.Read.{Read}
 use Rattle.image.specs.declared.number.Read.the-variants.{Got, Refused}
-use Rattle.image.specs.declared.load.Head as code
-use Rattle.image.specs.declared.load.Header.{Header}
-use Rattle.image.specs.declared.load.Header.the-variants.{Found, Refused as NoHead}
-use Rattle.image.specs.declared.load.Loaded.{Loaded}
-use Rattle.image.specs.declared.load.Verdict.{Verdict}
+use Rattle.image.specs.declared.walk.Head as code
+use Rattle.image.specs.declared.walk.Header.{Header}
+use Rattle.image.specs.declared.walk.Header.the-variants.{Found, Refused as NoHead}
+use Rattle.image.specs.declared.walk.Loaded.{Loaded}
+use Rattle.image.specs.declared.walk.Verdict.{Verdict}
 use Rattle.image.specs.Reading.{Reading, got, fault}
 use Rattle.image.specs.Image.{Head, readImage}
 use Rattle.image.specs.Filled.{Fills, Loads}

@@ -1,5 +1,12 @@
-// The image of a grammar: numbers, nodes, and the check of a whole image.
-pub mod load;
+// The image of a grammar: its numbers, its nodes, and the one walk that checks a whole image.
+//
+// `check` takes every byte string, of any length, and says good or the first fault's number and place. `load` does the same walk
+// and puts down what the evaluator visits nodes by; `node_of` gives the node that is kept there.
 pub mod node;
 pub mod number;
-pub mod operands;
+mod operands;
+pub mod walk;
+
+pub use node::node_of;
+pub use walk::check;
+pub use walk::load;

@@ -5,8 +5,8 @@ use Rattle.image.proofs.VerdictLaws.{says-good, says-refused, place-sma
 use Rattle.image.specs.Image.{readImage}
 use Rattle.image.specs.Meant.{verdict}
 use borrow.Author.Needs.{needs}
-use Rattle.image.proofs.load.check.Statement.{statement}
-use Rattle.image.proofs.load.check.Tie as tie
+use Rattle.image.proofs.walk.check.Statement.{statement}
+use Rattle.image.proofs.walk.check.Tie as tie
 
 load-requires : tie.Need-load-requires
 load-requires c κs = search needs

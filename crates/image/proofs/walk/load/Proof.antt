@@ -8,8 +8,8 @@ use Rattle.image.specs.Filled.{filling}
 use Rattle.image.specs.Meant.{reading, heading}
 use Rattle.image.specs.Word.{wordAt}
 use borrow.Author.Needs.{needs}
-use Rattle.image.proofs.load.load.Statement.{statement}
-use Rattle.image.proofs.load.load.Tie as tie
+use Rattle.image.proofs.walk.load.Statement.{statement}
+use Rattle.image.proofs.walk.load.Tie as tie
 
 -- The image is a list of bytes.
 bytes : (c : tie.After-shared-slice-known) → Bytes (c .before .args .image .now)

@@ -6,8 +6,8 @@ use native.Mathlib.Omega.{arith}
 use Rattle.image.proofs.FillLaws.{put-down, refused-at, all-down}
 use Rattle.image.specs.FilledLaws.{Filling, filling-starts}
 use Rattle.image.specs.Word.{wordAt}
-use Rattle.image.proofs.load.fill_nodes.Statement.{statement}
-use Rattle.image.proofs.load.fill_nodes.Tie as tie
+use Rattle.image.proofs.walk.fill_nodes.Statement.{statement}
+use Rattle.image.proofs.walk.fill_nodes.Tie as tie
 
 abbrev Inv-loop : tie.InvT-loop
 Inv-loop image code₀ start tables conditions nodes i₀ at₀ code i at = Filling (wordAt image tables conditions nodes) 0 nodes start code₀ code i at

@@ -6,8 +6,8 @@ use native.Mathlib.Omega.{arith}
 use Rattle.image.proofs.FillLaws.{put-down, refused-at, all-down}
 use Rattle.image.specs.FilledLaws.{Filling, filling-starts}
 use Rattle.image.specs.Image.{number}
-use Rattle.image.proofs.load.fill_patterns.Statement.{statement}
-use Rattle.image.proofs.load.fill_patterns.Tie as tie
+use Rattle.image.proofs.walk.fill_patterns.Statement.{statement}
+use Rattle.image.proofs.walk.fill_patterns.Tie as tie
 
 abbrev Inv-loop : tie.InvT-loop
 Inv-loop image code₀ start tables nodes t₀ at₀ code t at = Filling (λ t. number image 7 0 nodes) 512 tables start code₀ code t at

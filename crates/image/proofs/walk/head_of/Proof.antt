@@ -3,8 +3,8 @@ use mathlib.Core.Path.{_∙_}
 use Rattle.image.proofs.ReadLaws.{goes, breaks}
 use Rattle.image.proofs.HeadLaws.{found, afterNodes, afterConditions, afterTables, afterEdition}
 use borrow.Author.Needs.{needs}
-use Rattle.image.proofs.load.head_of.Statement.{statement}
-use Rattle.image.proofs.load.head_of.Tie as tie
+use Rattle.image.proofs.walk.head_of.Statement.{statement}
+use Rattle.image.proofs.walk.head_of.Tie as tie
 
 bounded-requires : tie.Need-bounded-requires
 bounded-requires c κs = search needs
