@@ -15,7 +15,9 @@ use Rattle.image.specs.FilledLaws.{Filling, filling-more, filling-stops,
 use Rattle.image.specs.Meant.{reading}
 
 module _ (p : ℕ → ℕ → Reading ℕ) (to N : ℕ) {start : ℕ} {before now : List ℕ} {i at : ℕ} (f : Filling p to N start before now i at) where
-  pub put-down : (j : ℕ) → j ≡ to + i → i < N → {r : Read} {n : Number} → reading r ≡ p i at → r ≡ Got n → Filling p to N start before (set now j (n .value)) (i + 1) (n .next)
+  pub put-down :
+      (j : ℕ) → j ≡ to + i → i < N → {r : Read} {n : Number} → reading r ≡ p i at → r ≡ Got n
+      → Filling p to N start before (set now j (n .value)) (i + 1) (n .next)
   put-down j is h e g = rw is (filling-more p to N f h (sym (ap reading g) ∙ e))
 
   pub refused-at : i < N → (r : Read) → tagOf the-type r ≡ 1 → reading r ≡ p i at → Fills p to N start before now r

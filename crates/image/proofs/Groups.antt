@@ -27,7 +27,8 @@ module _ (image : List ℕ) (at low i b : ℕ) where
     pub first-ends : b < 128 → got b (at + 1) ≡ first (length image) at (drop i image)
     first-ends l = rw (here e h, lt-ltb b 128 l)
 
-    pub first-more : (j : ℕ) → j ≡ i + 1 → 128 ≤ b → second (length image) at (b - 128) (drop j image) ≡ first (length image) at (drop i image)
+    pub first-more :
+        (j : ℕ) → j ≡ i + 1 → 128 ≤ b → second (length image) at (b - 128) (drop j image) ≡ first (length image) at (drop i image)
     first-more j n l = rw (n, here e h, le-ltb b 128 l)
 
     pub second-zero : b ≡ 0 → fault 3 at ≡ second (length image) at low (drop i image)
@@ -36,7 +37,9 @@ module _ (image : List ℕ) (at low i b : ℕ) where
     pub second-ends : (b ≡ 0 → ⊥) → b < 128 → got (low + b * 128) (at + 2) ≡ second (length image) at low (drop i image)
     second-ends z l = rw (here e h, ne-eqb b 0 z, lt-ltb b 128 l)
 
-    pub second-more : (j : ℕ) → j ≡ i + 1 → (b ≡ 0 → ⊥) → 128 ≤ b → third (length image) at (low + (b - 128) * 128) (drop j image) ≡ second (length image) at low (drop i image)
+    pub second-more :
+        (j : ℕ) → j ≡ i + 1 → (b ≡ 0 → ⊥) → 128 ≤ b
+        → third (length image) at (low + (b - 128) * 128) (drop j image) ≡ second (length image) at low (drop i image)
     second-more j n z l = rw (n, here e h, ne-eqb b 0 z, le-ltb b 128 l)
 
     pub third-zero : b ≡ 0 → fault 3 at ≡ third (length image) at low (drop i image)

@@ -35,4 +35,9 @@ few image e = of-got (rw (← e) at all)
     all : All Few (λ n place. Unit {0}) (headAt image)
     all =
         number-all image 4 1 2 0 ▹ λ edition at he. number-all image 5 0 9 at ▹ λ T at hT. number-all image 5 0 9 at ▹ λ C at hC.
-        number-all image 5 1 513 at ▹ λ N at hN. number-all image 7 0 N at ▹ λ s at hs. holds (record { tables = hT; conditions = hC; nodes = hN })
+        number-all image 5 1 513 at ▹ λ N at hN. number-all image 7 0 N at ▹ λ s at hs. holds (record {
+          tables =
+              hT;
+          conditions = hC;
+          nodes = hN;
+        })

@@ -23,11 +23,15 @@ stays (Got n) t k e = absurd (omega arith)
 stays (Refused f) t k e = onward k e
 
 -- What was got is read on from.
-pub goes : {B : Type 0} (k : ℕ → ℕ → Reading B) {r : Read} {n : Number} {x : Reading ℕ} → reading r ≡ x → r ≡ Got n → k (n .value) (n .next) ≡ (x then k)
+pub goes :
+    {B : Type 0} (k : ℕ → ℕ → Reading B) {r : Read} {n : Number} {x : Reading ℕ} → reading r ≡ x → r ≡ Got n
+    → k (n .value) (n .next) ≡ (x then k)
 goes k e g = onward k (sym (ap reading g) ∙ e)
 
 -- What was refused is refused, said of a reading of another kind.
-pub breaks : {B : Type 0} (k : ℕ → ℕ → Reading B) {r : Read} {f : Refusal} {x : Reading ℕ} → reading r ≡ x → r ≡ Refused f → fault (f .number) (f .place) ≡ (x then k)
+pub breaks :
+    {B : Type 0} (k : ℕ → ℕ → Reading B) {r : Read} {f : Refusal} {x : Reading ℕ} → reading r ≡ x → r ≡ Refused f
+    → fault (f .number) (f .place) ≡ (x then k)
 breaks k e g = onward k (sym (ap reading g) ∙ e)
 
 -- How a number that was read is judged by its range.
@@ -45,5 +49,7 @@ module _ (at low stop why : ℕ) where
   too-high n next h h' = rw (le-leb low n h, le-ltb n stop h')
 
 -- A number that was got is below what it must be below.
-pub under : (image : List ℕ) (why low stop at : ℕ) {r : Read} {n : Number} → reading r ≡ number image why low stop at → r ≡ Got n → n .value < stop
+pub under :
+    (image : List ℕ) (why low stop at : ℕ) {r : Read} {n : Number} → reading r ≡ number image why low stop at → r ≡ Got n
+    → n .value < stop
 under image why low stop at e g = number-below image why low stop at (sym (ap reading g) ∙ e)

@@ -49,16 +49,19 @@ Each P lo (suc k) = P lo × Each P (suc lo) k
 
 between : (P : ℕ → Type 0) (lo k n : ℕ) → Each P lo k → lo ≤ n → n < lo + k → P n
 between P lo zero n e l h = absurd (omega arith)
-between P lo (suc k) n e l h = ⊎-elim (λ q. subst P q (e .0)) (λ (q : lo < n). between P (suc lo) k n (e .1) q (omega arith)) (eq-or-lt-of-le l)
+between P lo (suc k) n e l h =
+    ⊎-elim (λ q. subst P q (e .0)) (λ (q : lo < n). between P (suc lo) k n (e .1) q (omega arith)) (eq-or-lt-of-le l)
 
 -- Keeping what was read at the end is keeping each part as it is read.
 one-kept : (x : Reading ℕ) (e : ℕ → Expr) → (x then λ a at. keep (e a) at) ≡ ((x then λ a at. got (e a) at) then keep)
 one-kept x e = sym (then-assoc x (λ a at. got (e a) at) keep)
 
 two-kept : (image : List ℕ) (why low stop at : ℕ) (y : ℕ → ℕ → Reading ℕ) (e : ℕ → ℕ → Expr)
-    → (number image why low stop at then λ a at. y a at then λ b at. keep (e a b) at) ≡ ((number image why low stop at then λ a at. y a at then λ b at. got (e a b) at) then keep)
+    → (number image why low stop at then λ a at. y a at then λ b at. keep (e a b) at)
+    ≡ ((number image why low stop at then λ a at. y a at then λ b at. got (e a b) at) then keep)
 two-kept image why low stop at y e =
-    then-ext (λ a at. y a at then λ b at. keep (e a b) at) (λ a at. (y a at then λ b at. got (e a b) at) then keep) (number-all image why low stop at) (λ a at h. one-kept (y a at) (e a))
+    then-ext (λ a at. y a at then λ b at. keep (e a b) at) (λ a at. (y a at then λ b at. got (e a b) at) then keep)
+    (number-all image why low stop at) (λ a at h. one-kept (y a at) (e a))
     ∙ sym (then-assoc (number image why low stop at) (λ a at. y a at then λ b at. got (e a b) at) keep)
 
 module _ (image : List ℕ) (T C N own : ℕ) where
@@ -77,22 +80,26 @@ module _ (image : List ℕ) (T C N own : ℕ) where
   byte-word tag at = between (λ n. oneAt image n 256 at ≡ operandsAt n at) 1 1 tag (one-kept (number image 7 0 256 at) Byte, tt)
 
   pub range-word : (tag at : ℕ) → 2 ≤ tag → tag < 3 → rangeAt image at ≡ operandsAt tag at
-  range-word tag at = between (λ n. rangeAt image at ≡ operandsAt n at) 2 1 tag (two-kept image 7 0 256 at (λ lo. number image 7 lo 256) Range, tt)
+  range-word tag at =
+      between (λ n. rangeAt image at ≡ operandsAt n at) 2 1 tag (two-kept image 7 0 256 at (λ lo. number image 7 lo 256) Range, tt)
 
   pub any-word : (tag at : ℕ) → 3 ≤ tag → tag < 4 → got (packed tag 0 0) at ≡ operandsAt tag at
   any-word tag at = between (λ n. got (packed n 0 0) at ≡ operandsAt n at) 3 1 tag (refl, tt)
 
   text-kept : (k at : ℕ) (t : Bool) → leb (at + k) (length image) ≡ t
-      → pick t (got (packed 4 at k) (at + k)) (fault 2 (length image)) ≡ ((pick t (got (take k (drop at image)) (at + k)) (fault 2 (length image)) then λ bytes at. got (Text bytes) at) then keep)
+      → pick t (got (packed 4 at k) (at + k)) (fault 2 (length image))
+      ≡ ((pick t (got (take k (drop at image)) (at + k)) (fault 2 (length image)) then λ bytes at. got (Text bytes) at) then keep)
   text-kept k at true e =
-      let long : length (take k (drop at image)) ≡ k = length-take-le k (drop at image) (rw (length-drop at image) (omega (arith, leb-true (at + k) (length image) e))) in
+      let long : length (take k (drop at image))
+      ≡ k = length-take-le k (drop at image) (rw (length-drop at image) (omega (arith, leb-true (at + k) (length image) e))) in
       let back : at + k - k ≡ at = omega arith in
       rw (long, back)
   text-kept k at false e = refl
 
   pub text-word : (tag at : ℕ) → 4 ≤ tag → tag < 5 → textAt image at ≡ operandsAt tag at
   text-word tag at = between (λ n. textAt image at ≡ operandsAt n at) 4 1 tag (
-    then-ext (bytesAt image) (λ k at. (raw image k at then λ bytes at. got (Text bytes) at) then keep) (number-all image 7 1 65 at) (λ k at h. text-kept k at (leb (at + k) (length image)) refl)
+    then-ext (bytesAt image) (λ k at. (raw image k at then λ bytes at. got (Text bytes) at) then keep) (number-all image 7 1 65 at)
+        (λ k at h. text-kept k at (leb (at + k) (length image)) refl)
         ∙ sym (then-assoc (number image 7 1 65 at) (λ k at. raw image k at then λ bytes at. got (Text bytes) at) keep),
     tt,
   )
@@ -114,7 +121,9 @@ module _ (image : List ℕ) (T C N own : ℕ) where
   table-word tag at = between (λ n. oneAt image n T at ≡ operandsAt n at) 10 5 tag
       (of Def, (of Match, (of Is, (of Isa, (of Exists, tt)))))
     where
-      of : (e : ℕ → Expr) → (number image 7 0 T at then λ a at. keep (e a) at) ≡ ((number image 7 0 T at then λ a at. got (e a) at) then keep)
+      of :
+          (e : ℕ → Expr) → (number image 7 0 T at then λ a at. keep (e a) at)
+          ≡ ((number image 7 0 T at then λ a at. got (e a) at) then keep)
       of = one-kept (number image 7 0 T at)
 
   pub scope-word : (tag at : ℕ) → 15 ≤ tag → tag < 17 → twoAt image tag T own at ≡ operandsAt tag at
@@ -140,6 +149,7 @@ module _ (image : List ℕ) (T C N own : ℕ) where
   pub on-word : (tag at : ℕ) → 18 ≤ tag → tag < 19 → onAt image C own at ≡ operandsAt tag at
   on-word tag at = between (λ n. onAt image C own at ≡ operandsAt n at) 18 1 tag (
     switch-then at (lastAt image 18 own) (λ c w at. number image 7 0 own at then λ a at. got (On c (eqb w 1) a) at)
-        (λ c w at l. ap (λ b. number image 7 0 own at then λ a at. got (packed 18 (switch c b) a) at) (sym (bit-back w l)) ∙ one-kept (number image 7 0 own at) (λ a. On c (eqb w 1) a)),
+        (λ c w at l. ap (λ b. number image 7 0 own at then λ a at. got (packed 18 (switch c b) a) at) (sym (bit-back w l))
+        ∙ one-kept (number image 7 0 own at) (λ a. On c (eqb w 1) a)),
     tt,
   )

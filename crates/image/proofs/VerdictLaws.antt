@@ -23,7 +23,9 @@ says-good (refused n place) t e = let z : _≡_ {A = ℕ} 0 1 = sym t ∙ ap (ta
 
 pub says-refused : (x : Checked) {r : Loaded} {f : Refusal} → r ≡ Refused f → r ≡ answered x → x ≡ refused (f .number) (f .place)
 says-refused (good g) e q = let z : _≡_ {A = ℕ} 0 1 = cc in absurd (omega arith)
-says-refused (refused n place) {f = f} e q = let same : record { number = n; place = place } ≡ f = cc in ap (λ f. refused (f .number) (f .place)) same
+says-refused (refused n place) {f =
+    f} e q = let same : record { number = n; place = place } ≡ f = cc in ap (λ f. refused (f .number) (f .place)) same
 
-pub place-small : (image : List ℕ) → Bytes image → {r : Loaded} {f : Refusal} → r ≡ Refused f → r ≡ answered (readImage image) → f .place ≤ 16384
+pub place-small :
+    (image : List ℕ) → Bytes image → {r : Loaded} {f : Refusal} → r ≡ Refused f → r ≡ answered (readImage image) → f .place ≤ 16384
 place-small image bytes {f = f} e q = refusal image bytes (f .number) (f .place) (says-refused (readImage image) e q) .small

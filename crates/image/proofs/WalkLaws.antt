@@ -24,7 +24,9 @@ pub record Walk (image before after : List ℕ) (r : Loaded) : Type 0 where
   pub array : after ≡ filled image before
 
 -- What the walk says and puts down is the promise, for a list of bytes and an array of 520 numbers.
-pub promised : {image before after : List ℕ} {r : Loaded} → Bytes image → length before ≡ 520 → Walk image before after r → Loads image before after r
+pub promised :
+    {image before after : List ℕ} {r : Loaded} → Bytes image → length before ≡ 520 → Walk image before after r
+    → Loads image before after r
 promised {image} {before} {after} bytes room w = record {
   answer = w .answer;
   array = w .array;
@@ -37,11 +39,15 @@ pub putting : {image before after array : List ℕ} {r : Loaded} → after ≡ a
 putting e w = record { answer = w .answer; array = e ∙ w .array }
 
 -- How many nodes there are, and where they end, is as well read by their words.
-words-counted : (image : List ℕ) (T C N k i m at : ℕ) → (times (wordAt image T C N) i m at then counted k) ≡ (times (nodeAt image T C N) i m at then counted k)
+words-counted :
+    (image : List ℕ) (T C N k i m at : ℕ)
+    → (times (wordAt image T C N) i m at then counted k) ≡ (times (nodeAt image T C N) i m at then counted k)
 words-counted image T C N k i zero at = refl
 words-counted image T C N k i (suc m) at = one (nodeAt image T C N i at) λ next. words-counted image T C N k (suc i) m next
   where
-    one : (r : Reading Expr) → ((next : ℕ) → (times (wordAt image T C N) (suc i) m next then counted k) ≡ (times (nodeAt image T C N) (suc i) m next then counted k))
+    one :
+        (r : Reading Expr) → ((next : ℕ)
+        → (times (wordAt image T C N) (suc i) m next then counted k) ≡ (times (nodeAt image T C N) (suc i) m next then counted k))
         → (((r then keep) then λ x at. times (wordAt image T C N) (suc i) m at then λ xs at. got (x ∷ xs) at) then counted k)
         ≡ ((r then λ x at. times (nodeAt image T C N) (suc i) m at then λ xs at. got (x ∷ xs) at) then counted k)
     one (got x next) later =
@@ -59,7 +65,9 @@ module _ (image : List ℕ) (code : List ℕ) where
     said : {r : Reading Grammar} → r ≡ (headAt image then bodyAt image) → answered (ended image r) ≡ answered (readImage image)
     said e = rw (le-ltb 16384 (length image) short) (ap (λ r. answered (ended image r)) e)
 
-    put : {l : List ℕ} → l ≡ (unless (headAt image) code λ h at. unless (patternsAt image h at) (withPatterns image h at code) λ ps next. withNodes image h next (withPatterns image h at code)) → l ≡ filled image code
+    put :
+        {l : List ℕ} → l ≡ (unless (headAt image) code λ h at. unless (patternsAt image h at)
+        (withPatterns image h at code) λ ps next. withNodes image h next (withPatterns image h at code)) → l ≡ filled image code
     put e = rw (le-ltb 16384 (length image) short) e
 
     -- A faulty head.
@@ -71,7 +79,9 @@ module _ (image : List ℕ) (code : List ℕ) where
       body e = said (e ∙ onward (bodyAt image) eh)
 
       -- A pattern that cannot be read.
-      pub no-patterns : {n place : ℕ} → fault n place ≡ (patternsAt image h at then counted (h .tables)) → Walk image code (withPatterns image h at code) (Refused (record { number = n; place = place }))
+      pub no-patterns :
+          {n place : ℕ} → fault n place ≡ (patternsAt image h at then counted (h .tables))
+          → Walk image code (withPatterns image h at code) (Refused (record { number = n; place = place }))
       no-patterns e =
           let f = through-fault (patternsAt image h at) (λ ps next. h .tables) (sym e) in
           record { answer = body (sym (onward (afterPatterns image h) f)); array = put (rw (← eh) (rw f)) }
@@ -97,7 +107,9 @@ module _ (image : List ℕ) (code : List ℕ) where
         by-words = words-counted image (h .tables) (h .conditions) (h .nodes) (h .nodes) 0 (h .nodes) next
 
         -- A node that cannot be read.
-        pub no-nodes : {n place : ℕ} → fault n place ≡ words → Walk image code (withNodes image h next (withPatterns image h at code)) (Refused (record { number = n; place = place }))
+        pub no-nodes :
+            {n place : ℕ} → fault n place ≡ words
+            → Walk image code (withNodes image h next (withPatterns image h at code)) (Refused (record { number = n; place = place }))
         no-nodes e =
             let f = through-fault (nodesAt image h next) (λ xs next. h .nodes) (sym (e ∙ by-words)) in
             record { answer = nodes (sym (onward (made h (ps .value)) f)); array = all-put }
@@ -113,12 +125,23 @@ module _ (image : List ℕ) (code : List ℕ) where
           all-read = nodes (sym (onward (made h (ps .value)) nodes-are))
 
           -- Bytes after the last node.
-          pub left-over : end < length image → Walk image code (withNodes image h next (withPatterns image h at code)) (Refused (record { number = 8; place = end }))
+          pub left-over :
+              end < length image → Walk image code (withNodes image h next (withPatterns image h at code))
+              (Refused (record { number = 8; place = end }))
           left-over l = record { answer = rw (lt-ltb end (length image) l) at all-read; array = all-put }
 
           -- A good image.
-          pub all-good : length image ≤ end → Walk image code (withNodes image h next (withPatterns image h at code)) (Good (h .tables) (h .conditions) (h .nodes) (h .start))
+          pub all-good :
+              length image ≤ end → Walk image code (withNodes image h next (withPatterns image h at code))
+              (Good (h .tables) (h .conditions) (h .nodes) (h .start))
           all-good l =
-              let T : length (ps .value) ≡ h .tables = of-got (rw patterns-are at (times-count (λ t. number image 7 0 (h .nodes)) 0 (h .tables) at)) in
-              let N : length (xs .value) ≡ h .nodes = of-got (rw nodes-are at (times-count (nodeAt image (h .tables) (h .conditions) (h .nodes)) 0 (h .nodes) next)) in
-              record { answer = ap₂ (λ T N. Good T (h .conditions) N (h .start)) (sym T) (sym N) ∙ rw (le-ltb end (length image) l) at all-read; array = all-put }
+              let T : length (ps .value)
+              ≡ h .tables = of-got (rw patterns-are at (times-count (λ t. number image 7 0 (h .nodes)) 0 (h .tables) at)) in
+              let N : length (xs .value)
+              ≡ h .nodes = of-got (rw nodes-are at
+              (times-count (nodeAt image (h .tables) (h .conditions) (h .nodes)) 0 (h .nodes) next)) in
+              record {
+                answer = ap₂ (λ T N. Good T (h .conditions) N (h .start)) (sym T) (sym N)
+                    ∙ rw (le-ltb end (length image) l) at all-read;
+                array = all-put;
+              }

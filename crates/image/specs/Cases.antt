@@ -11,15 +11,20 @@ use Rattle.image.specs.Written.{encode}
 use Rattle.image.specs.Image.{Checked, good, refused, readImage}
 
 -- "127 is `7F`, 128 `80 01`, 16,383 `FF 7F`, 16,384 `80 80 01`."
-numbers-written : map groups (127 ∷ 128 ∷ 16383 ∷ 16384 ∷ []) ≡ (0x7F ∷ []) ∷ (0x80 ∷ 0x01 ∷ []) ∷ (0xFF ∷ 0x7F ∷ []) ∷ (0x80 ∷ 0x80 ∷ 0x01 ∷ []) ∷ []
+numbers-written :
+    map groups (127 ∷ 128 ∷ 16383 ∷ 16384 ∷ []) ≡ (0x7F ∷ []) ∷ (0x80 ∷ 0x01 ∷ []) ∷ (0xFF ∷ 0x7F ∷ []) ∷ (0x80 ∷ 0x80 ∷ 0x01 ∷ []) ∷ []
 numbers-written = refl
 
-numbers-read : map (λ b. numberAt b 0) ((0x7F ∷ []) ∷ (0x80 ∷ 0x01 ∷ []) ∷ (0xFF ∷ 0x7F ∷ []) ∷ (0x80 ∷ 0x80 ∷ 0x01 ∷ []) ∷ []) ≡ got 127 1 ∷ got 128 2 ∷ got 16383 2 ∷ got 16384 3 ∷ []
+numbers-read :
+    map (λ b. numberAt b 0) ((0x7F ∷ []) ∷ (0x80 ∷ 0x01 ∷ []) ∷ (0xFF ∷ 0x7F ∷ []) ∷ (0x80 ∷ 0x80 ∷ 0x01 ∷ []) ∷ [])
+    ≡ got 127 1 ∷ got 128 2 ∷ got 16383 2 ∷ got 16384 3 ∷ []
 numbers-read = refl
 
 -- "`80 00` and `80 80 80` are 3; `80` at the end is 2." And 0 itself is the single byte 00; where a number is due and the
 -- image ends, that is 2.
-numbers-refused : map (λ b. numberAt b 0) ((0x80 ∷ 0x00 ∷ []) ∷ (0x80 ∷ 0x80 ∷ 0x80 ∷ []) ∷ (0x80 ∷ []) ∷ (0x00 ∷ []) ∷ [] ∷ []) ≡ fault 3 0 ∷ fault 3 0 ∷ fault 2 1 ∷ got 0 1 ∷ fault 2 0 ∷ []
+numbers-refused :
+    map (λ b. numberAt b 0) ((0x80 ∷ 0x00 ∷ []) ∷ (0x80 ∷ 0x80 ∷ 0x80 ∷ []) ∷ (0x80 ∷ []) ∷ (0x00 ∷ []) ∷ [] ∷ [])
+    ≡ fault 3 0 ∷ fault 3 0 ∷ fault 2 1 ∷ got 0 1 ∷ fault 2 0 ∷ []
 numbers-refused = refl
 
 -- Image H: a name of letters A to Z is defined, then `=`, then the same name.
@@ -46,5 +51,7 @@ harbour-written = refl
 after-last : readImage (harbour ++ (0x00 ∷ [])) ≡ refused 8 26
 after-last = refl
 
-most-nodes : readImage ((0x01 ∷ 0x00 ∷ 0x00 ∷ 0x80 ∷ 0x04 ∷ 0x00 ∷ []) ++ replicate 512 0x00) ≡ good (record { conditions = 0; start = 0; patterns = []; nodes = replicate 512 Empty })
+most-nodes :
+    readImage ((0x01 ∷ 0x00 ∷ 0x00 ∷ 0x80 ∷ 0x04 ∷ 0x00 ∷ []) ++ replicate 512 0x00)
+    ≡ good (record { conditions = 0; start = 0; patterns = []; nodes = replicate 512 Empty })
 most-nodes = refl

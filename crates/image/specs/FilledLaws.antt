@@ -20,9 +20,12 @@ module _ (p : ℕ → ℕ → Reading ℕ) (to N : ℕ) where
 
   one-read : (i k at : ℕ) {r : Reading ℕ} → r ≡ p i at → (r then rest i k) ≡ (times p i (suc k) at then counted N)
   unfolding rest
-  one-read i k at {r} e = onward (rest i k) e ∙ sym (then-assoc (p i at) (λ x at. times p (suc i) k at then λ xs at. got (x ∷ xs) at) (counted N))
+  one-read i k at {r} e =
+      onward (rest i k) e ∙ sym (then-assoc (p i at) (λ x at. times p (suc i) k at then λ xs at. got (x ∷ xs) at) (counted N))
 
-  one-down : (i k at : ℕ) (l : List ℕ) {r : Reading ℕ} → r ≡ p i at → unless r l (λ w next. filling p to (suc i) k next (set l (to + i) w)) ≡ filling p to i (suc k) at l
+  one-down :
+      (i k at : ℕ) (l : List ℕ) {r : Reading ℕ} → r ≡ p i at
+      → unless r l (λ w next. filling p to (suc i) k next (set l (to + i) w)) ≡ filling p to i (suc k) at l
   one-down i k at l e = ap (λ r. unless r l (λ w next. filling p to (suc i) k next (set l (to + i) w))) e
 
   -- N readings, the first at `start`, are put down from `to` on. After i of them: what is still to be read gives what the whole
@@ -49,7 +52,9 @@ module _ (p : ℕ → ℕ → Reading ℕ) (to N : ℕ) where
         }
 
     -- One cannot be read.
-    pub filling-stops : i < N → {n place : ℕ} → fault n place ≡ p i at → (fault n place ≡ (times p 0 N start then counted N)) × (now ≡ filling p to 0 N start before)
+    pub filling-stops :
+        i < N → {n place : ℕ} → fault n place ≡ p i at
+        → (fault n place ≡ (times p 0 N start then counted N)) × (now ≡ filling p to 0 N start before)
     unfolding rest
     filling-stops h e =
         let left : N - i ≡ suc (N - suc i) = omega arith in
@@ -68,7 +73,8 @@ module _ (p : ℕ → ℕ → Reading ℕ) (to : ℕ) where
   plus-suc i m = omega arith
 
   -- A place where nothing is put down is left as it was.
-  pub filling-other : (i k at j : ℕ) (l : List ℕ) → ((m : ℕ) → m < k → j ≡ to + (i + m) → ⊥) → getD (filling p to i k at l) j 0 ≡ getD l j 0
+  pub filling-other :
+      (i k at j : ℕ) (l : List ℕ) → ((m : ℕ) → m < k → j ≡ to + (i + m) → ⊥) → getD (filling p to i k at l) j 0 ≡ getD l j 0
   filling-other i zero at j l out = refl
   filling-other i (suc k) at j l out =
       go (p i at) λ w next. filling-other (suc i) k next j (set l (to + i) w) (λ m h e. out (suc m) (omega arith) (rw (plus-suc i m) e))
@@ -83,7 +89,9 @@ module _ (p : ℕ → ℕ → Reading ℕ) (to : ℕ) where
 
   -- Where all could be read, each stands at its place.
   abbrev Stand : (i k at : ℕ) → Type 0
-  Stand i k at = (n : ℕ) (l ws : List ℕ) (end : ℕ) → times p i k at ≡ got ws end → n < k → to + (i + k) ≤ length l → getD (filling p to i k at l) (to + (i + n)) 0 ≡ getD ws n 0
+  Stand i k at =
+      (n : ℕ) (l ws : List ℕ) (end : ℕ) → times p i k at ≡ got ws end → n < k → to + (i + k) ≤ length l
+      → getD (filling p to i k at l) (to + (i + n)) 0 ≡ getD ws n 0
 
   pub filling-at : (i k at : ℕ) → Stand i k at
   filling-at i zero at n l ws end e h long = absurd (omega arith)
@@ -92,19 +100,26 @@ module _ (p : ℕ → ℕ → Reading ℕ) (to : ℕ) where
       at-first : (w next : ℕ) → getD (filling p to (suc i) k next (set l (to + i) w)) (to + (i + 0)) 0 ≡ w
       at-first w next =
           let here : to + (i + 0) ≡ to + i = omega arith in
-          rw here (filling-other (suc i) k next (to + i) (set l (to + i) w) (λ m h e. omega arith) ∙ getD-set-same l (to + i) w 0 (omega arith))
+          rw here (filling-other (suc i) k next (to + i) (set l (to + i) w) (λ m h e. omega arith)
+          ∙ getD-set-same l (to + i) w 0 (omega arith))
 
-      which : (m w next : ℕ) (xs : List ℕ) (end : ℕ) → m < suc k → times p (suc i) k next ≡ got xs end → Stand (suc i) k next → getD (filling p to (suc i) k next (set l (to + i) w)) (to + (i + m)) 0 ≡ getD (w ∷ xs) m 0
+      which :
+          (m w next : ℕ) (xs : List ℕ) (end : ℕ) → m < suc k → times p (suc i) k next ≡ got xs end → Stand (suc i) k next
+          → getD (filling p to (suc i) k next (set l (to + i) w)) (to + (i + m)) 0 ≡ getD (w ∷ xs) m 0
       which zero w next xs end h q later = at-first w next
       which (suc m) w next xs end h q later =
           rw (plus-suc i m) (later m (set l (to + i) w) xs end q (omega arith) (rw (length-set l (to + i) w) (omega arith)))
 
-      more : (w next : ℕ) (t : Reading (List ℕ)) → times p (suc i) k next ≡ t → (t then λ xs at. got (w ∷ xs) at) ≡ got ws end → Stand (suc i) k next
+      more :
+          (w next : ℕ) (t : Reading (List ℕ)) → times p (suc i) k next ≡ t → (t then λ xs at. got (w ∷ xs) at) ≡ got ws end
+          → Stand (suc i) k next
           → getD (filling p to (suc i) k next (set l (to + i) w)) (to + (i + n)) 0 ≡ getD ws n 0
       more w next (got xs end') q e later = let same : w ∷ xs ≡ ws = cc in which n w next xs end' h q later ∙ ap (λ l. getD l n 0) same
       more w next (fault m place) q e later = let z : _≡_ {A = ℕ} 0 1 = cc in absurd (omega arith)
 
-      one : (r : Reading ℕ) → (r then λ x at. times p (suc i) k at then λ xs at. got (x ∷ xs) at) ≡ got ws end → ((next : ℕ) → Stand (suc i) k next)
+      one :
+          (r : Reading ℕ) → (r then λ x at. times p (suc i) k at then λ xs at. got (x ∷ xs) at) ≡ got ws end
+          → ((next : ℕ) → Stand (suc i) k next)
           → getD (unless r l (λ w next. filling p to (suc i) k next (set l (to + i) w))) (to + (i + n)) 0 ≡ getD ws n 0
       one (got w next) e later = more w next (times p (suc i) k next) refl e (later next)
       one (fault m place) e later = let z : _≡_ {A = ℕ} 0 1 = cc in absurd (omega arith)

@@ -37,7 +37,8 @@ module _ {A : Type 0} (S : ℕ → A → Type 0) (d : A) where
 
   pub each-of : (l : List A) (i : ℕ) → ((n : ℕ) → n < length l → S (i + n) (getD l n d)) → EachFrom S i l
   each-of [] i f = nil
-  each-of (x ∷ xs) i f = rw (plus-zero i) at (f 0 (omega arith)) & each-of xs (suc i) (λ n h. rw (plus-suc i n) at (f (suc n) (omega arith)))
+  each-of (x ∷ xs) i f =
+      rw (plus-zero i) at (f 0 (omega arith)) & each-of xs (suc i) (λ n h. rw (plus-suc i n) at (f (suc n) (omega arith)))
 
 pub numbers-snoc : (ns : List ℕ) (n : ℕ) → numbers (ns ++ (n ∷ [])) ≡ numbers ns ++ groups n
 numbers-snoc [] n = append-nil (groups n)
@@ -73,7 +74,9 @@ bit-back (suc (suc n)) h = absurd (omega arith)
 pub number-all : (image : List ℕ) (why low stop at : ℕ) → All (λ n next. n < stop) (λ n place. Unit {0}) (number image why low stop at)
 number-all image why low stop at = go (numberAt image at)
   where
-    go : (r : Reading ℕ) → All (λ n next. n < stop) (λ n place. Unit {0}) (r then λ n next. pick (inside low stop n) (got n next) (fault why at))
+    go :
+        (r : Reading ℕ) → All (λ n next. n < stop) (λ n place. Unit {0})
+        (r then λ n next. pick (inside low stop n) (got n next) (fault why at))
     go (got n next) = pick-all (inside low stop n) (λ t. holds (inside-high low stop n t)) (λ _. stops tt)
     go (fault n place) = stops tt
 

@@ -36,7 +36,9 @@ through (got x at) k e = record { value = x; next = at; first = refl; rest = e }
 through (fault n place) k e = let z : _≡_ {A = ℕ} 0 1 = cc in absurd (omega arith)
 
 -- Where the second of two readings always gives something, a fault is the first one's.
-pub through-fault : {A B : Type 0} (r : Reading A) (f : A → ℕ → B) {n place : ℕ} → (r then λ x next. got (f x next) next) ≡ fault n place → r ≡ fault n place
+pub through-fault :
+    {A B : Type 0} (r : Reading A) (f : A → ℕ → B) {n place : ℕ} → (r then λ x next. got (f x next) next) ≡ fault n place
+    → r ≡ fault n place
 through-fault (got x at) f e = let z : _≡_ {A = ℕ} 0 1 = cc in absurd (omega arith)
 through-fault (fault n place) f e = cc
 
@@ -57,7 +59,9 @@ body-of image g e = whole (ltb 16384 (length image)) refl e
     read short (got x at) q e = record { short = short; end = at; is = q ∙ ap (λ x. got x at) (last x at (ltb at (length image)) e) }
     read short (fault n place) q e = let z : _≡_ {A = ℕ} 0 1 = cc in absurd (omega arith)
 
-    whole : (t : Bool) → ltb 16384 (length image) ≡ t → pick t (refused 1 0) (ended image (headAt image then bodyAt image)) ≡ good g → Body image g
+    whole :
+        (t : Bool) → ltb 16384 (length image) ≡ t → pick t (refused 1 0) (ended image (headAt image then bodyAt image)) ≡ good g
+        → Body image g
     whole true q e = let z : _≡_ {A = ℕ} 0 1 = cc in absurd (omega arith)
     whole false q e = read (ltb-false 16384 (length image) q) (headAt image then bodyAt image) refl e
 
@@ -107,7 +111,8 @@ whatever (got x next) = holds tt
 whatever (fault n place) = stops tt
 
 -- So many readings give so many values.
-pub times-count : {A : Type 0} (p : ℕ → ℕ → Reading A) (i k at : ℕ) → All (λ xs next. length xs ≡ k) (λ n place. Unit {0}) (times p i k at)
+pub times-count :
+    {A : Type 0} (p : ℕ → ℕ → Reading A) (i k at : ℕ) → All (λ xs next. length xs ≡ k) (λ n place. Unit {0}) (times p i k at)
 times-count p i zero at = holds refl
 times-count p i (suc k) at = whatever (p i at) ▹ λ x at _. times-count p (suc i) k at ▹ λ xs at e. holds (ap suc e)
 
@@ -120,11 +125,13 @@ unfolding nodeOf
 zero-empty image = refl
 
 module _ (image : List ℕ) (bytes : Bytes image) (short : length image ≤ 16384) where
-  text-placed : (v s : List ℕ) (next : ℕ) → take next image ≡ v ++ s → next ≤ length image → take (length s) (drop (next - length s) image) ≡ s
+  text-placed :
+      (v s : List ℕ) (next : ℕ) → take next image ≡ v ++ s → next ≤ length image → take (length s) (drop (next - length s) image) ≡ s
   text-placed v s next e h =
       let whole : image ≡ (v ++ s) ++ drop next image = sym (take-append-drop next image) ∙ ap (λ l. l ++ drop next image) e in
       let before : next - length s ≡ length v = omega (arith, length-take-le next image h, simp length-append at (ap length e)) in
-      rw before (ap (λ l. take (length s) (drop (length v) l)) whole ∙ rw (append-assoc v s (drop next image), drop-append-seam v (s ++ drop next image), take-append-seam s (drop next image)))
+      rw before (ap (λ l. take (length s) (drop (length v) l)) whole
+      ∙ rw (append-assoc v s (drop next image), drop-append-seam v (s ++ drop next image), take-append-seam s (drop next image)))
 
   -- The bytes of a Text stand right before the place where its node ends.
   placed : (x : Expr) (u : List ℕ) {next : ℕ} → Front image (u ++ encodeNode x) next → Placed image x next
@@ -136,24 +143,30 @@ module _ (image : List ℕ) (bytes : Bytes image) (short : length image ≤ 1638
 
   module _ (T C N : ℕ) (few : (T ≤ 512) × (C ≤ 512) × (N ≤ 512)) where
     abbrev Read : (i k at : ℕ) → Type 0
-    Read i k at = (times (wordAt image T C N) i k at then λ ws next. got (map (visited image) ws) next) ≡ times (nodeAt image T C N) i k at
+    Read i k at =
+        (times (wordAt image T C N) i k at then λ ws next. got (map (visited image) ws) next) ≡ times (nodeAt image T C N) i k at
 
     -- The words of the nodes stand for the nodes.
     words-read : (i k at : ℕ) (u : List ℕ) → i + k ≤ N → Front image u at → Read i k at
     words-read i zero at u h f = refl
     words-read i (suc k) at u h f =
-        one (nodeAt image T C N i at) (node-all image bytes T C N i f) λ x next o. words-read (suc i) k next (u ++ encodeNode x) (omega arith) (o .on)
+        one (nodeAt image T C N i at) (node-all image bytes T C N i f) λ x next o. words-read (suc i) k next (u ++ encodeNode x)
+        (omega arith) (o .on)
       where
         same : (x : Expr) (next : ℕ) → One image (Fits T C N i) encodeNode u x next → visited image (kept x next) ≡ x
         same x next o = kept-back image T C N i (omega arith) x (o .fits) next (placed x u (o .on))
 
         more : (x : Expr) (next : ℕ) → visited image (kept x next) ≡ x → (t : Reading (List ℕ))
-            → ((t then λ xs at. got (kept x next ∷ xs) at) then λ ws next. got (map (visited image) ws) next) ≡ ((t then λ ws next. got (map (visited image) ws) next) then λ xs at. got (x ∷ xs) at)
+            → ((t then λ xs at. got (kept x next ∷ xs) at) then λ ws next. got (map (visited image) ws) next)
+            ≡ ((t then λ ws next. got (map (visited image) ws) next) then λ xs at. got (x ∷ xs) at)
         more x next e (got ws end) = ap (λ x. got (x ∷ map (visited image) ws) end) e
         more x next e (fault n place) = refl
 
-        one : (r : Reading Expr) → All (One image (Fits T C N i) encodeNode u) (Refusal (length image)) r → ((x : Expr) (next : ℕ) → One image (Fits T C N i) encodeNode u x next → Read (suc i) k next)
-            → (((r then keep) then λ x at. times (wordAt image T C N) (suc i) k at then λ xs at. got (x ∷ xs) at) then λ ws next. got (map (visited image) ws) next)
+        one :
+            (r : Reading Expr) → All (One image (Fits T C N i) encodeNode u) (Refusal (length image)) r
+            → ((x : Expr) (next : ℕ) → One image (Fits T C N i) encodeNode u x next → Read (suc i) k next)
+            → (((r then keep) then λ x at. times (wordAt image T C N) (suc i) k at then λ xs at. got (x ∷ xs) at) then λ ws next. got
+            (map (visited image) ws) next)
             ≡ (r then λ x at. times (nodeAt image T C N) (suc i) k at then λ xs at. got (x ∷ xs) at)
         one (got x next) (holds o) later =
             more x next (same x next o) (times (wordAt image T C N) (suc i) k next)
@@ -173,7 +186,9 @@ module _ (image : List ℕ) (bytes : Bytes image) (before : List ℕ) (room : le
     head-read = of-got (rw eh at (head-all image bytes))
 
     patterns-read : Many image (λ i a. a < h .nodes) groups 0 (h .tables) (take at image) ps next
-    patterns-read = of-got (rw ep at (times-all image (λ i a. a < h .nodes) groups (λ i. number image 7 0 (h .nodes)) (pattern-all image bytes (h .nodes)) 0 (h .tables) (take at image) at
+    patterns-read =
+        of-got (rw ep at (times-all image (λ i a. a < h .nodes) groups (λ i. number image 7 0 (h .nodes))
+        (pattern-all image bytes (h .nodes)) 0 (h .tables) (take at image) at
         (record { front = refl; within = head-read .on .within })))
 
     pub nodes-at : (n : ℕ) → n < length xs → visited image (getD (filled image before) n 0) ≡ getD xs n Empty
@@ -189,7 +204,8 @@ module _ (image : List ℕ) (bytes : Bytes image) (before : List ℕ) (room : le
         let own : 0 + (0 + n) ≡ n = omega arith in
         let long : length (withPatterns image h at before) ≡ 520 = filling-length (λ t. number image 7 0 N) 512 0 T at before ∙ room in
         ap (λ l. visited image (getD l n 0)) array-is
-        ∙ ap (visited image) (rw own at (filling-at words 0 0 N next n (withPatterns image h at before) (t .value) (t .next) (t .first) (omega arith) (omega arith)))
+        ∙ ap (visited image) (rw own at
+        (filling-at words 0 0 N next n (withPatterns image h at before) (t .value) (t .next) (t .first) (omega arith) (omega arith)))
         ∙ sym (List·getD-map (visited image) (t .value) n 0)
         ∙ ap (λ d. getD (map (visited image) (t .value)) n d) (zero-empty image)
         ∙ ap (λ l. getD l n Empty) same
@@ -200,7 +216,8 @@ module _ (image : List ℕ) (bytes : Bytes image) (before : List ℕ) (room : le
         let count : length ps ≡ h .tables = patterns-read .count in
         let own : 0 + t ≡ t = omega arith in
         ap (λ l. getD l (512 + t) 0) array-is
-        ∙ filling-other (wordAt image (h .tables) (h .conditions) (h .nodes)) 0 0 (h .nodes) next (512 + t) (withPatterns image h at before) (λ m l e. omega arith)
+        ∙ filling-other (wordAt image (h .tables) (h .conditions) (h .nodes)) 0 0 (h .nodes) next (512 + t)
+        (withPatterns image h at before) (λ m l e. omega arith)
         ∙ rw own at (filling-at (λ t. number image 7 0 (h .nodes)) 512 0 (h .tables) at t before ps next ep (omega arith) (omega arith))
 
   module _ (g : Grammar) (e : readImage image ≡ good g) where

@@ -30,7 +30,8 @@ at-least : (n k : ℕ) → NoneBelow n k → k ≤ n
 at-least n zero h = omega arith
 at-least n (suc k) h = let l : k ≤ n = at-least n k (h .0) in let m : n ≡ k → ⊥ = h .1 in omega arith
 
-pub kind-last : (word : ℕ) → NoneBelow (word % 32) 18 → On (word / 32 % 32768 / 2) (eqb (word / 32 % 32768 % 2) 1) (word / 1048576) ≡ nodeOf word
+pub kind-last :
+    (word : ℕ) → NoneBelow (word % 32) 18 → On (word / 32 % 32768 / 2) (eqb (word / 32 % 32768 % 2) 1) (word / 1048576) ≡ nodeOf word
 unfolding nodeOf
 kind-last word h =
     let a = word / 32 % 32768 in let b = word / 1048576 in
@@ -45,7 +46,14 @@ module _ (tag a b : ℕ) (ht : tag < 32) (ha : a < 32768) (hb : b < 4096) where
   middle-part : packed tag a b / 32 % 32768 ≡ a
   middle-part =
       let n = packed tag a b / 32 in
-      omega (arith, div-add-mod' (packed tag a b) 32, mod-lt (packed tag a b) {m = 32} (omega arith), div-add-mod' n 32768, mod-lt n {m = 32768} (omega arith))
+      omega (
+        arith,
+        div-add-mod' (packed tag a b) 32,
+        mod-lt (packed tag a b) {m =
+            32} (omega arith),
+        div-add-mod' n 32768,
+        mod-lt n {m = 32768} (omega arith),
+      )
 
   high-part : packed tag a b / 1048576 ≡ b
   high-part = omega (arith, div-add-mod' (packed tag a b) 1048576, mod-lt (packed tag a b) {m = 1048576} (omega arith))
@@ -78,7 +86,8 @@ switch-small c false h = omega arith
 
 -- If x is a Text that ends at `next`, its bytes stand before that place.
 abbrev pub Placed : (image : List ℕ) → e.Expr → (next : ℕ) → Type 0
-Placed image x next = (bytes : List ℕ) → x ≡ e.Text bytes → (next - length bytes < 32768) × (take (length bytes) (drop (next - length bytes) image) ≡ bytes)
+Placed image x next =
+    (bytes : List ℕ) → x ≡ e.Text bytes → (next - length bytes < 32768) × (take (length bytes) (drop (next - length bytes) image) ≡ bytes)
 
 module _ (image : List ℕ) (T C N own : ℕ) (small : (T ≤ 512) × (C ≤ 512) × (N ≤ 512) × (own ≤ 512)) where
   -- The expression of a word whose parts fit.
@@ -95,9 +104,11 @@ module _ (image : List ℕ) (T C N own : ℕ) (small : (T ≤ 512) × (C ≤ 512
   pub kept-back : (x : e.Expr) → Fits T C N own x → (next : ℕ) → Placed image x next → exprOf image (nodeOf (kept x next)) ≡ x
   kept-back e.Empty h next p = one 0 0 (omega arith) (omega arith)
   kept-back (e.Byte b) h next p = one 1 b (omega arith) (omega (arith, h)) ∙ ap e.Byte (byte-back b h)
-  kept-back (e.Range lo hi) h next p = two 2 lo hi (omega arith) (omega (arith, h .0, h .1)) ∙ ap₂ e.Range (byte-back lo (omega (arith, h .0, h .1))) (byte-back hi (h .1))
+  kept-back (e.Range lo hi) h next p =
+      two 2 lo hi (omega arith) (omega (arith, h .0, h .1)) ∙ ap₂ e.Range (byte-back lo (omega (arith, h .0, h .1))) (byte-back hi (h .1))
   kept-back e.Any h next p = one 3 0 (omega arith) (omega arith)
-  kept-back (e.Text bytes) h next p = of-word 4 (next - length bytes) (length bytes) (omega arith) (p bytes refl .0) (omega (arith, h .1)) ∙ ap e.Text (p bytes refl .1)
+  kept-back (e.Text bytes) h next p =
+      of-word 4 (next - length bytes) (length bytes) (omega arith) (p bytes refl .0) (omega (arith, h .1)) ∙ ap e.Text (p bytes refl .1)
   kept-back (e.Sequence a b) h next p = two 5 a b (omega arith) (omega (arith, h .0, h .1, small .3))
   kept-back (e.Choice a b) h next p = two 6 a b (omega arith) (omega (arith, h .0, h .1, small .3))
   kept-back (e.Star a) h next p = one 7 a (omega arith) (omega (arith, h, small .3))
@@ -114,5 +125,6 @@ module _ (image : List ℕ) (T C N own : ℕ) (small : (T ≤ 512) × (C ≤ 512
       of-word 17 (switch c (bit truth)) 0 (omega arith) (switch-small c truth (omega (arith, h, small .1))) (omega arith)
       ∙ ap₂ e.If (condition-back c truth) (truth-back c truth)
   kept-back (e.On c truth a) h next p =
-      of-word 18 (switch c (bit truth)) a (omega arith) (switch-small c truth (omega (arith, h .0, small .1))) (omega (arith, h .1, small .3))
+      of-word 18 (switch c (bit truth)) a (omega arith) (switch-small c truth (omega (arith, h .0, small .1)))
+      (omega (arith, h .1, small .3))
       ∙ ap₂ (λ c w. e.On c w a) (condition-back c truth) (truth-back c truth)

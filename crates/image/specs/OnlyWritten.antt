@@ -58,7 +58,9 @@ module _ (image : List ℕ) where
   abbrev pub Stop : ℕ → ℕ → Type 0
   Stop = Refusal (length image)
 
-  pub times-all : {A : Type 0} (S : ℕ → A → Type 0) (w : A → List ℕ) (p : ℕ → ℕ → Reading A) → ((i at : ℕ) (u : List ℕ) → Front u at → All (One (S i) w u) Stop (p i at))
+  pub times-all :
+      {A : Type 0} (S : ℕ → A → Type 0) (w : A → List ℕ) (p : ℕ → ℕ → Reading A)
+      → ((i at : ℕ) (u : List ℕ) → Front u at → All (One (S i) w u) Stop (p i at))
       → (i k : ℕ) (u : List ℕ) (at : ℕ) → Front u at → All (Many S w i k u) Stop (times p i k at)
   times-all S w p each i zero u at f = holds {next = at} (record { fits = nil; count = refl; on = rw (append-nil u) f })
   times-all S w p each i (suc k) u at f =
@@ -66,13 +68,19 @@ module _ (image : List ℕ) where
       holds (record { fits = r .fits & m .fits; count = ap suc (m .count); on = rw (append-assoc u (w x) (written w xs)) at (m .on) })
 
   module _ (bytes : Bytes image) where
-    number-all : (why low stop : ℕ) → (2 ≤ why) × (why ≤ 8) → {u ns : List ℕ} {at : ℕ} → Upto u ns at → All (Number low stop u ns) Stop (number image why low stop at)
+    number-all :
+        (why low stop : ℕ) → (2 ≤ why) × (why ≤ 8) → {u ns : List ℕ} {at : ℕ} → Upto u ns at
+        → All (Number low stop u ns) Stop (number image why low stop at)
     number-all why low stop ok {u} {ns} {at} f =
         first-all (length image) at (f .here .within) (drop at image) (λ i. rw (getD-drop at image i 0) (bytes (at + i)))
         ▹ λ n next w. pick-all (inside low stop n) (λ e. holds (record {
           least = inside-low low stop n e;
           under = inside-high low stop n e;
-          on = record { here = rw (numbers-snoc ns n, ← (append-assoc u (numbers ns) (groups n)), w .place) (front-on (groups n) (w .rest) (f .here) (w .split)) };
+          on =
+              record {
+                here = rw (numbers-snoc ns n, ← (append-assoc u (numbers ns) (groups n)), w .place)
+                    (front-on (groups n) (w .rest) (f .here) (w .split));
+              };
         })) (λ _. stops outside)
       where
         outside : Stop why at
@@ -89,7 +97,12 @@ module _ (image : List ℕ) where
         (λ e. holds (record {
           long = length-take-le k (drop at image) (rw (length-drop at image) (omega (arith, leb-true (at + k) (length image) e)));
           small = bytes-take k (drop at image) (λ i. rw (getD-drop at image i 0) (bytes (at + i)));
-          on = record { front = take-add at k image ∙ ap (λ l. l ++ take k (drop at image)) (f .front); within = leb-true (at + k) (length image) e };
+          on =
+              record {
+                front = take-add at k image
+                    ∙ ap (λ l. l ++ take k (drop at image)) (f .front);
+                within = leb-true (at + k) (length image) e;
+              };
         }))
         (λ _. stops {n = 2} {place = length image} (omega arith))
 
@@ -101,10 +114,14 @@ module _ (image : List ℕ) where
       abbrev Kind : ℕ → (ℕ → Reading Expr) → Type 0
       Kind tag p = (u : List ℕ) (at : ℕ) → Upto u (tag ∷ []) at → All (One (Fits T C N own) encodeNode u) Stop (p at)
 
-      done : {S : Expr → Type 0} {u : List ℕ} (e : Expr) {at : ℕ} → S e → Front (u ++ encodeNode e) at → All (One S encodeNode u) Stop (got e at)
+      done :
+          {S : Expr → Type 0} {u : List ℕ} (e : Expr) {at : ℕ} → S e → Front (u ++ encodeNode e) at
+          → All (One S encodeNode u) Stop (got e at)
       done e s f = holds (record { fits = s; on = f })
 
-      text : {u : List ℕ} (k : ℕ) (x : List ℕ) (at : ℕ) {before : ℕ} → Number 1 65 u (4 ∷ []) k before → Raw k (u ++ numbers (4 ∷ k ∷ [])) x at → All (One (Fits T C N own) encodeNode u) Stop (got (Text x) at)
+      text :
+          {u : List ℕ} (k : ℕ) (x : List ℕ) (at : ℕ) {before : ℕ} → Number 1 65 u (4 ∷ []) k before
+          → Raw k (u ++ numbers (4 ∷ k ∷ [])) x at → All (One (Fits T C N own) encodeNode u) Stop (got (Text x) at)
       text {u} k x at r s = done (Text x) (rw (s .long) (r .least), rw (s .long) (up-to 64 (r .under)), s .small)
           (rw (s .long, ← (append-assoc u (numbers (4 ∷ k ∷ [])) x)) (s .on))
 
@@ -112,7 +129,8 @@ module _ (image : List ℕ) where
       kinds-all =
           (λ u at f. done Empty tt (f .here))
           & (λ u at f. operand 0 256 f ▹ λ b at r. done (Byte b) (up-to 255 (r .under)) (r .on .here))
-          & (λ u at f. operand 0 256 f ▹ λ lo at r. operand lo 256 (r .on) ▹ λ hi at s. done (Range lo hi) (s .least, up-to 255 (s .under)) (s .on .here))
+          & (λ u at f. operand 0 256 f ▹ λ lo at r. operand lo 256 (r .on) ▹ λ hi at s.
+          done (Range lo hi) (s .least, up-to 255 (s .under)) (s .on .here))
           & (λ u at f. done Any tt (f .here))
           & (λ u at f. operand 1 65 f ▹ λ k at r. raw-all k (r .on .here) ▹ λ x at s. text k x at r s)
           & (λ u at f. operand 0 own f ▹ λ a at r. operand 0 own (r .on) ▹ λ b at s. done (Sequence a b) (r .under, s .under) (s .on .here))
@@ -127,15 +145,20 @@ module _ (image : List ℕ) where
           & (λ u at f. operand 0 T f ▹ λ t at r. done (Exists t) (r .under) (r .on .here))
           & (λ u at f. operand 0 T f ▹ λ t at r. operand 0 own (r .on) ▹ λ a at s. done (Block t a) (r .under, s .under) (s .on .here))
           & (λ u at f. operand 0 T f ▹ λ t at r. operand 0 own (r .on) ▹ λ a at s. done (Local t a) (r .under, s .under) (s .on .here))
-          & (λ u at f. operand 0 C f ▹ λ c at r. operand 0 2 (r .on) ▹ λ w at s. done (If c (eqb w 1)) {at = at} (r .under) (rw (bit-back w (s .under)) (s .on .here)))
-          & (λ u at f. operand 0 C f ▹ λ c at r. operand 0 2 (r .on) ▹ λ w at s. operand 0 own (s .on) ▹ λ a at q. done (On c (eqb w 1) a) {at = at} (r .under, q .under) (rw (bit-back w (s .under)) (q .on .here)))
+          & (λ u at f. operand 0 C f ▹ λ c at r. operand 0 2 (r .on) ▹ λ w at s.
+          done (If c (eqb w 1)) {at = at} (r .under) (rw (bit-back w (s .under)) (s .on .here)))
+          & (λ u at f. operand 0 C f ▹ λ c at r. operand 0 2 (r .on) ▹ λ w at s. operand 0 own (s .on) ▹ λ a at q.
+          done (On c (eqb w 1) a) {at = at} (r .under, q .under) (rw (bit-back w (s .under)) (q .on .here)))
           & nil
 
       pub node-all : {u : List ℕ} {at : ℕ} → Front u at → All (One (Fits T C N own) encodeNode u) Stop (nodeAt image T C N own at)
-      node-all {u} {at} f = number-all 6 0 19 (omega arith) (start f) ▹ λ tag at r. each-at Kind (fault 6) (kinds image T C N own) 0 tag kinds-all (r .under) u at (rw (zero-plus tag) (r .on))
+      node-all {u} {at} f =
+          number-all 6 0 19 (omega arith) (start f) ▹ λ tag at r. each-at Kind (fault 6) (kinds image T C N own) 0 tag kinds-all
+          (r .under) u at (rw (zero-plus tag) (r .on))
 
     pub pattern-all : (N i at : ℕ) (u : List ℕ) → Front u at → All (One (λ a. a < N) groups u) Stop (number image 7 0 N at)
-    pattern-all N i at u f = operand 0 N (start f) ▹' λ n at r. record { fits = r .under; on = rw (append-nil (groups n)) at (r .on .here) }
+    pattern-all N i at u f =
+        operand 0 N (start f) ▹' λ n at r. record { fits = r .under; on = rw (append-nil (groups n)) at (r .on .here) }
 
     -- The numbers that the image begins with, within their ranges.
     pub record HeadRead (h : Head) (next : ℕ) : Type 0 where
@@ -153,7 +176,14 @@ module _ (image : List ℕ) where
         number-all 5 0 9 (omega arith) (t .on) ▹ λ C at c.
         number-all 5 1 513 (omega arith) (c .on) ▹ λ N at n.
         operand 0 N (n .on) ▹ λ first at s.
-        holds (record { few-tables = up-to 8 (t .under); few-conditions = up-to 8 (c .under); some-node = n .least; few-nodes = up-to 512 (n .under); start-named = s .under; on = rw (only e) at (s .on .here) })
+        holds (record {
+          few-tables = up-to 8 (t .under);
+          few-conditions = up-to 8 (c .under);
+          some-node = n .least;
+          few-nodes = up-to 512 (n .under);
+          start-named = s .under;
+          on = rw (only e) at (s .on .here);
+        })
       where
         only : {n at : ℕ} → Number 1 2 [] [] n at → n ≡ 1
         only r = omega arith
@@ -168,8 +198,10 @@ module _ (image : List ℕ) where
 
     pub body-all : All Whole Stop (headAt image then bodyAt image)
     body-all = head-all ▹ λ h at r.
-        times-all (λ i a. a < h .nodes) groups (λ i. number image 7 0 (h .nodes)) (pattern-all (h .nodes)) 0 (h .tables) _ at (r .on) ▹ λ ps at p.
-        times-all (Fits (h .tables) (h .conditions) (h .nodes)) encodeNode (nodeAt image (h .tables) (h .conditions) (h .nodes)) (λ i at u f. node-all (h .tables) (h .conditions) (h .nodes) i f) 0 (h .nodes) _ at (p .on) ▹ λ es at q.
+        times-all (λ i a. a < h .nodes) groups (λ i. number image 7 0 (h .nodes)) (pattern-all (h .nodes)) 0 (h .tables) _ at (r .on)
+        ▹ λ ps at p.
+        times-all (Fits (h .tables) (h .conditions) (h .nodes)) encodeNode (nodeAt image (h .tables) (h .conditions) (h .nodes))
+        (λ i at u f. node-all (h .tables) (h .conditions) (h .nodes) i f) 0 (h .nodes) _ at (p .on) ▹ λ es at q.
         holds (record {
           sound = record {
             few-tables = rw (p .count) (r .few-tables);

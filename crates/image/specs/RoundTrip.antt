@@ -41,7 +41,9 @@ pub data Said (image : List ℕ) : Checked → Type 0 where
   refuses : {n place : ℕ} → Refuses image n place → Said image (refused n place)
 
 module _ (image : List ℕ) (bytes : Bytes image) where
-  at-end : (short : length image ≤ 16384) {g : Grammar} {at : ℕ} → Whole image bytes g at → (t : Bool) → ltb at (length image) ≡ t → Said image (pick t (refused 8 at) (good g))
+  at-end :
+      (short : length image ≤ 16384) {g : Grammar} {at : ℕ} → Whole image bytes g at → (t : Bool) → ltb at (length image) ≡ t
+      → Said image (pick t (refused 8 at) (good g))
   at-end short {g} {at} w true e = refuses {n = 8} {place = at} (omega (arith, w .on .within))
   at-end short {g} {at} w false e = stands (record {
     sound = w .sound;
@@ -72,7 +74,8 @@ of-refused (refuses h) = h
 read-back : (image : List ℕ) (g : Grammar) → Stands image g → readImage image ≡ good g
 read-back image g s =
     let b = body-back image g (s .sound) (s .writing) in
-    rw (le-ltb 16384 (length image) (s .short), b .is) (rw (le-ltb (b .next) (length image) (omega (arith, simp length-drop at (ap length (b .after))))))
+    rw (le-ltb 16384 (length image) (s .short), b .is)
+    (rw (le-ltb (b .next) (length image) (omega (arith, simp length-drop at (ap length (b .after))))))
 
 -- THE ROUND TRIP. The reader says good with g exactly if g is sound, `encode g` is the image, and it is at most 16,384 bytes.
 pub exact : (image : List ℕ) → Bytes image → (g : Grammar) → (readImage image ≡ good g) ↔ Stands image g
@@ -88,7 +91,9 @@ pub number-read : (n : ℕ) (t : List ℕ) → n < 2097152 → numberAt (groups 
 number-read n t h = first-back (length (groups n ++ t)) 0 n t h ∙ ap (λ k. got n k) (zero-plus (length (groups n)))
 
 -- What was read is how that number is written, and no other way.
-pub number-written : (b : List ℕ) (at n next : ℕ) → Bytes b → at ≤ length b → numberAt b at ≡ got n next → (take next b ≡ take at b ++ groups n) × (n < 2097152)
+pub number-written :
+    (b : List ℕ) (at n next : ℕ) → Bytes b → at ≤ length b → numberAt b at ≡ got n next
+    → (take next b ≡ take at b ++ groups n) × (n < 2097152)
 number-written b at n next bytes l e =
     let w = of-got (rw e at (first-all (length b) at l (drop at b) (λ i. rw (getD-drop at b i 0) (bytes (at + i))))) in
     (rw (w .place) (front-on b (groups n) (w .rest) (record { front = refl; within = l }) (w .split) .front), w .small)

@@ -25,7 +25,8 @@ one-reading r s e f = same r s (e ∙ sym f)
     same (Got m) (Refused f) e = let z : _≡_ {A = ℕ} 0 1 = cc in absurd (omega arith)
     same (Refused f) (Got n) e = let z : _≡_ {A = ℕ} 0 1 = cc in absurd (omega arith)
     same (Refused f) (Refused g) e =
-        let number : f .number ≡ g .number = cc in let place : f .place ≡ g .place = cc in λ i. Refused (record { number = number i; place = place i })
+        let number : f .number ≡ g .number = cc in let place : f .place ≡ g .place = cc in
+        λ i. Refused (record { number = number i; place = place i })
 
 -- `head_of`: it promises `heading r ≡ x`.
 pub one-heading : (r s : Header) {x : Reading Head} → heading r ≡ x → heading s ≡ x → r ≡ s
@@ -37,18 +38,30 @@ one-heading r s e f = same r s (e ∙ sym f)
     same : (r s : Header) → heading r ≡ heading s → r ≡ s
     same (Found h) (Found k) e =
         let head : said h ≡ said k = cc in let next : h .next ≡ k .next = cc in
-        λ i. Found (record { tables = head i .tables; conditions = head i .conditions; nodes = head i .nodes; start = head i .start; next = next i })
+        λ i. Found (record {
+          tables =
+              head i .tables;
+          conditions = head i .conditions;
+          nodes = head i .nodes;
+          start = head i .start;
+          next = next i;
+        })
     same (Found h) (NoHead g) e = let z : _≡_ {A = ℕ} 0 1 = cc in absurd (omega arith)
     same (NoHead f) (Found k) e = let z : _≡_ {A = ℕ} 0 1 = cc in absurd (omega arith)
     same (NoHead f) (NoHead g) e =
-        let number : f .number ≡ g .number = cc in let place : f .place ≡ g .place = cc in λ i. NoHead (record { number = number i; place = place i })
+        let number : f .number ≡ g .number = cc in let place : f .place ≡ g .place = cc in
+        λ i. NoHead (record { number = number i; place = place i })
 
 -- `fill_patterns` and `fill_nodes`: what is read and what the array holds.
-pub one-filling : {p : ℕ → ℕ → Reading ℕ} {to k at : ℕ} {before after after' : List ℕ} {r r' : Read} → Fills p to k at before after r → Fills p to k at before after' r' → (r ≡ r') × (after ≡ after')
+pub one-filling :
+    {p : ℕ → ℕ → Reading ℕ} {to k at : ℕ} {before after after' : List ℕ} {r r' : Read} → Fills p to k at before after r
+    → Fills p to k at before after' r' → (r ≡ r') × (after ≡ after')
 one-filling {r = r} {r' = r'} f g = (one-reading r r' (f .result) (g .result), f .array ∙ sym (g .array))
 
 -- `load`: what is said and what the array holds, after a refusal too.
-pub one-loading : {image before after after' : List ℕ} {r r' : Loaded} → Loads image before after r → Loads image before after' r' → (r ≡ r') × (after ≡ after')
+pub one-loading :
+    {image before after after' : List ℕ} {r r' : Loaded} → Loads image before after r → Loads image before after' r'
+    → (r ≡ r') × (after ≡ after')
 one-loading f g = (f .answer ∙ sym (g .answer), f .array ∙ sym (g .array))
 
 -- `check`, and likewise `node_of` and `word`: each promises `r ≡ x`.

@@ -17,10 +17,15 @@ enum-known-taken : tie.Need-enum-known-taken
 enum-known-taken c = search needs
 
 array-share-prefix-image : tie.Need-array-share-prefix-image
-array-share-prefix-image c = subst (Within (length (c .before .before .before .before .take .last .1 .0))) (c .before .taken .given .1) (c .before .before .before .before .take .ensures)
+array-share-prefix-image c =
+    subst (Within (length (c .before .before .before .before .take .last .1 .0))) (c .before .taken .given .1)
+    (c .before .before .before .before .take .ensures)
 
 slice-aggregate-describe : tie.Need-slice-aggregate-describe
-slice-aggregate-describe c = sym (length-take-le _ _ (subst (Within (length (c .before .before .before .before .before .take .last .1 .0))) (c .before .before .taken .given .1) (c .before .before .before .before .before .take .ensures)))
+slice-aggregate-describe c =
+    sym (length-take-le _ _
+    (subst (Within (length (c .before .before .before .before .before .take .last .1 .0))) (c .before .before .taken .given .1)
+    (c .before .before .before .before .before .take .ensures)))
 
 describe-requires : tie.Need-describe-requires
 describe-requires c κs = search needs

@@ -16,23 +16,39 @@ enum-told : tie.Need-enum-told
 enum-told c = search needs
 
 returns : tie.Need-returns
-returns c = let a = c .before .before .before .before .args in
-    stays (c .before .before .number-at .result) (c .before .match .keys2) (judged (a .at) (a .low) (a .stop) (a .why)) (c .before .before .number-at .ensures)
+returns c =
+    let s1 = c .before in
+    let s2 = s1 .before in
+    let s3 = s2 .before .before in
+    let a = s3 .args in
+    stays (s2 .number-at .result) (s1 .match .keys2) (judged (a .at) (a .low) (a .stop) (a .why)) (s2 .number-at .ensures)
 
 returns-2 : tie.Need-returns-2
-returns-2 c = let a = c .before .before .before .before .before .before .before .args in let r = c .before .before .before .r .given in
+returns-2 c =
+    let s1 = c .before .before .before in
+    let s2 = s1 .before .before in
+    let s3 = s2 .before .before in
+    let a = s3 .args in let r = s1 .r .given in
     too-low (a .at) (a .low) (a .stop) (a .why) (r .0 .0 .value) (r .0 .0 .next) (omega arith)
-    ∙ goes (judged (a .at) (a .low) (a .stop) (a .why)) (c .before .before .before .before .before .number-at .ensures) (r .1)
+    ∙ goes (judged (a .at) (a .low) (a .stop) (a .why)) (s2 .number-at .ensures) (r .1)
 
 returns-3 : tie.Need-returns-3
-returns-3 c = let a = c .before .before .before .before .before .before .before .before .before .args in let r = c .before .before .before .before .before .r .given in
+returns-3 c =
+    let s1 = c .before .before .before .before .before in
+    let s2 = s1 .before .before in
+    let s3 = s2 .before .before in
+    let a = s3 .args in let r = s1 .r .given in
     fits (a .at) (a .low) (a .stop) (a .why) (r .0 .0 .value) (r .0 .0 .next) (omega arith) (omega arith)
-    ∙ goes (judged (a .at) (a .low) (a .stop) (a .why)) (c .before .before .before .before .before .before .before .number-at .ensures) (r .1)
+    ∙ goes (judged (a .at) (a .low) (a .stop) (a .why)) (s2 .number-at .ensures) (r .1)
 
 returns-4 : tie.Need-returns-4
-returns-4 c = let a = c .before .before .before .before .before .before .before .before .before .args in let r = c .before .before .before .before .before .r .given in
+returns-4 c =
+    let s1 = c .before .before .before .before .before in
+    let s2 = s1 .before .before in
+    let s3 = s2 .before .before in
+    let a = s3 .args in let r = s1 .r .given in
     too-high (a .at) (a .low) (a .stop) (a .why) (r .0 .0 .value) (r .0 .0 .next) (omega arith) (omega arith)
-    ∙ goes (judged (a .at) (a .low) (a .stop) (a .why)) (c .before .before .before .before .before .before .before .number-at .ensures) (r .1)
+    ∙ goes (judged (a .at) (a .low) (a .stop) (a .why)) (s2 .number-at .ensures) (r .1)
 
 pub bounded-spec : {M : Type 1} → statement M
 bounded-spec =

@@ -20,14 +20,20 @@ add-t9 : tie.Need-add-t9
 add-t9 c = search needs
 
 returns-2 : tie.Need-returns-2
-returns-2 c = let a = c .before .before .before .before .before .args in let b = c .before .wide in
+returns-2 c =
+    let s1 = c .before in
+    let s2 = s1 .before .before .before .before in
+    let a = s2 .args in let b = s1 .wide in
     first-ends (a .image .now) (a .at) 0 (a .at) (b .result) (b .ensures .0) (omega arith) (omega arith)
 
 second-group-requires : tie.Need-second-group-requires
 second-group-requires c κs = search needs
 
 returns-3 : tie.Need-returns-3
-returns-3 c = let a = c .before .before .before .before .before .before .args in let b = c .before .before .wide in
+returns-3 c =
+    let s1 = c .before .before in
+    let s2 = s1 .before .before .before .before in
+    let a = s2 .args in let b = s1 .wide in
     c .second-group .ensures
     ∙ first-more (a .image .now) (a .at) 0 (a .at) (b .result) (b .ensures .0) (omega arith) (a .at + 1) (omega arith) (omega arith)
 

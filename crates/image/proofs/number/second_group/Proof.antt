@@ -23,7 +23,10 @@ wide-requires : tie.Need-wide-requires
 wide-requires c κs = search needs
 
 returns-2 : tie.Need-returns-2
-returns-2 c = let a = c .before .before .before .before .before .args in let b = c .before .wide in
+returns-2 c =
+    let s1 = c .before in
+    let s2 = s1 .before .before .before .before in
+    let a = s2 .args in let b = s1 .wide in
     second-zero (a .image .now) (a .at) (a .low) (a .at + 1) (b .result) (b .ensures .0) (omega arith) (omega arith)
 
 mul-t12 : tie.Need-mul-t12
@@ -36,7 +39,10 @@ add-t14 : tie.Need-add-t14
 add-t14 c = search needs
 
 returns-3 : tie.Need-returns-3
-returns-3 c = let a = c .before .before .before .before .before .before .args in let b = c .before .before .wide in
+returns-3 c =
+    let s1 = c .before .before in
+    let s2 = s1 .before .before .before .before in
+    let a = s2 .args in let b = s1 .wide in
     second-ends (a .image .now) (a .at) (a .low) (a .at + 1) (b .result) (b .ensures .0) (omega arith) (λ z. omega arith) (omega arith)
 
 mul-third-group : tie.Need-mul-third-group
@@ -49,9 +55,13 @@ third-group-requires : tie.Need-third-group-requires
 third-group-requires c κs = search needs
 
 returns-4 : tie.Need-returns-4
-returns-4 c = let a = c .before .before .before .before .before .before .before .args in let b = c .before .before .before .wide in
+returns-4 c =
+    let s1 = c .before .before .before in
+    let s2 = s1 .before .before .before .before in
+    let a = s2 .args in let b = s1 .wide in
     c .third-group .ensures
-    ∙ second-more (a .image .now) (a .at) (a .low) (a .at + 1) (b .result) (b .ensures .0) (omega arith) (a .at + 2) (omega arith) (λ z. omega arith) (omega arith)
+    ∙ second-more (a .image .now) (a .at) (a .low) (a .at + 1) (b .result) (b .ensures .0) (omega arith) (a .at + 2) (omega arith)
+    (λ z. omega arith) (omega arith)
 
 pub second-group-spec : {M : Type 1} → statement M
 second-group-spec =

@@ -22,7 +22,10 @@ wide-requires : tie.Need-wide-requires
 wide-requires c κs = search needs
 
 returns-2 : tie.Need-returns-2
-returns-2 c = let a = c .before .before .before .before .before .args in let b = c .before .wide in
+returns-2 c =
+    let s1 = c .before in
+    let s2 = s1 .before .before .before .before in
+    let a = s2 .args in let b = s1 .wide in
     third-zero (a .image .now) (a .at) (a .low) (a .at + 2) (b .result) (b .ensures .0) (omega arith) (omega arith)
 
 mul-t12 : tie.Need-mul-t12
@@ -35,11 +38,17 @@ add-t14 : tie.Need-add-t14
 add-t14 c = search needs
 
 returns-3 : tie.Need-returns-3
-returns-3 c = let a = c .before .before .before .before .before .before .args in let b = c .before .before .wide in
+returns-3 c =
+    let s1 = c .before .before in
+    let s2 = s1 .before .before .before .before in
+    let a = s2 .args in let b = s1 .wide in
     third-ends (a .image .now) (a .at) (a .low) (a .at + 2) (b .result) (b .ensures .0) (omega arith) (λ z. omega arith) (omega arith)
 
 returns-4 : tie.Need-returns-4
-returns-4 c = let a = c .before .before .before .before .before .before .args in let b = c .before .before .wide in
+returns-4 c =
+    let s1 = c .before .before in
+    let s2 = s1 .before .before .before .before in
+    let a = s2 .args in let b = s1 .wide in
     third-more (a .image .now) (a .at) (a .low) (a .at + 2) (b .result) (b .ensures .0) (omega arith) (λ z. omega arith) (omega arith)
 
 pub third-group-spec : {M : Type 1} → statement M

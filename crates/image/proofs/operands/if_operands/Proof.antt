@@ -22,11 +22,18 @@ returns : tie.Need-returns
 returns c = stays (c .before .before .switch .result) (c .before .match .keys2) (word1 17) (c .before .before .switch .ensures)
 
 word-requires : tie.Need-word-requires
-word-requires c κs = let a = c .before .before .before .before .before .args in omega (arith, switch-below (a .image .now) (a .conditions) (a .at) (c .before .before .before .switch .ensures) (c .before .r .given .1))
+word-requires c κs =
+    let s1 = c .before in
+    let s2 = s1 .before .before in
+    let s3 = s2 .before .before in
+    let a = s3 .args in omega (arith, switch-below (a .image .now) (a .conditions) (a .at) (s2 .switch .ensures) (s1 .r .given .1))
 
 returns-2 : tie.Need-returns-2
-returns-2 c = ap (λ w. got w (c .before .before .r .given .0 .0 .next)) (c .word .ensures)
-    ∙ goes (word1 17) (c .before .before .before .before .switch .ensures) (c .before .before .r .given .1)
+returns-2 c =
+    let s1 = c .before .before in
+    let s2 = s1 .before .before in
+    ap (λ w. got w (s1 .r .given .0 .0 .next)) (c .word .ensures)
+    ∙ goes (word1 17) (s2 .switch .ensures) (s1 .r .given .1)
 
 pub if-operands-spec : {M : Type 1} → statement M
 if-operands-spec =

@@ -19,7 +19,11 @@ enum-told : tie.Need-enum-told
 enum-told c = search needs
 
 returns : tie.Need-returns
-returns c = let a = c .before .before .before .before .args in stays (c .before .before .switch .result) (c .before .match .keys2) (lastAt (a .image .now) 18 (a .own)) (c .before .before .switch .ensures)
+returns c =
+    let s1 = c .before in
+    let s2 = s1 .before in
+    let s3 = s2 .before .before in
+    let a = s3 .args in stays (s2 .switch .result) (s1 .match .keys2) (lastAt (a .image .now) 18 (a .own)) (s2 .switch .ensures)
 
 bounded-requires : tie.Need-bounded-requires
 bounded-requires c κs = search needs
@@ -31,19 +35,41 @@ enum-told-2 : tie.Need-enum-told-2
 enum-told-2 c = search needs
 
 returns-2 : tie.Need-returns-2
-returns-2 c = let a = c .before .before .before .before .before .before .before .before .args in
-    stays (c .before .before .bounded .result) (c .before .match2 .keys2) (word2 18 (c .before .before .before .before .r .given .0 .0 .value)) (c .before .before .bounded .ensures)
-    ∙ goes (lastAt (a .image .now) 18 (a .own)) (c .before .before .before .before .before .before .switch .ensures) (c .before .before .before .before .r .given .1)
+returns-2 c =
+    let s1 = c .before in
+    let s2 = s1 .before in
+    let s3 = s2 .before .before in
+    let s4 = s3 .before .before in
+    let s5 = s4 .before .before in
+    let a = s5 .args in
+    stays (s2 .bounded .result) (s1 .match2 .keys2) (word2 18 (s3 .r .given .0 .0 .value)) (s2 .bounded .ensures)
+    ∙ goes (lastAt (a .image .now) 18 (a .own)) (s4 .switch .ensures) (s3 .r .given .1)
 
 word-requires : tie.Need-word-requires
-word-requires c κs = let a = c .before .before .before .before .before .before .before .before .before .args in
-    omega (arith, switch-below (a .image .now) (a .conditions) (a .at) (c .before .before .before .before .before .before .before .switch .ensures) (c .before .before .before .before .before .r .given .1), under (a .image .now) 7 0 (a .own) (c .before .before .before .before .before .r .given .0 .0 .next) (c .before .before .before .bounded .ensures) (c .before .t .given .1))
+word-requires c κs =
+    let s1 = c .before in
+    let s2 = s1 .before .before in
+    let s3 = s2 .before .before in
+    let s4 = s3 .before .before in
+    let s5 = s4 .before .before in
+    let a = s5 .args in
+    omega (
+      arith,
+      switch-below (a .image .now) (a .conditions) (a .at) (s4 .switch .ensures) (s3 .r .given .1),
+      under (a .image .now) 7 0 (a .own) (s3 .r .given .0 .0 .next) (s2 .bounded .ensures) (s1 .t .given .1),
+    )
 
 returns-3 : tie.Need-returns-3
-returns-3 c = let a = c .before .before .before .before .before .before .before .before .before .before .args in
-    ap (λ w. got w (c .before .before .t .given .0 .0 .next)) (c .word .ensures)
-    ∙ goes (word2 18 (c .before .before .before .before .before .before .r .given .0 .0 .value)) (c .before .before .before .before .bounded .ensures) (c .before .before .t .given .1)
-    ∙ goes (lastAt (a .image .now) 18 (a .own)) (c .before .before .before .before .before .before .before .before .switch .ensures) (c .before .before .before .before .before .before .r .given .1)
+returns-3 c =
+    let s1 = c .before .before in
+    let s2 = s1 .before .before in
+    let s3 = s2 .before .before in
+    let s4 = s3 .before .before in
+    let s5 = s4 .before .before in
+    let a = s5 .args in
+    ap (λ w. got w (s1 .t .given .0 .0 .next)) (c .word .ensures)
+    ∙ goes (word2 18 (s3 .r .given .0 .0 .value)) (s2 .bounded .ensures) (s1 .t .given .1)
+    ∙ goes (lastAt (a .image .now) 18 (a .own)) (s4 .switch .ensures) (s3 .r .given .1)
 
 pub on-operands-spec : {M : Type 1} → statement M
 on-operands-spec =

@@ -18,14 +18,26 @@ enum-told : tie.Need-enum-told
 enum-told c = search needs
 
 returns : tie.Need-returns
-returns c = stays (c .before .before .bounded .result) (c .before .match .keys2) (word1 (c .before .before .before .before .args .tag)) (c .before .before .bounded .ensures)
+returns c =
+    let s1 = c .before in
+    let s2 = s1 .before in
+    let s3 = s2 .before .before in
+    stays (s2 .bounded .result) (s1 .match .keys2) (word1 (s3 .args .tag)) (s2 .bounded .ensures)
 
 word-requires : tie.Need-word-requires
-word-requires c κs = let a = c .before .before .before .before .before .args in omega (arith, under (a .image .now) 7 0 (a .stop) (a .at) (c .before .before .before .bounded .ensures) (c .before .r .given .1))
+word-requires c κs =
+    let s1 = c .before in
+    let s2 = s1 .before .before in
+    let s3 = s2 .before .before in
+    let a = s3 .args in omega (arith, under (a .image .now) 7 0 (a .stop) (a .at) (s2 .bounded .ensures) (s1 .r .given .1))
 
 returns-2 : tie.Need-returns-2
-returns-2 c = ap (λ w. got w (c .before .before .r .given .0 .0 .next)) (c .word .ensures)
-    ∙ goes (word1 (c .before .before .before .before .before .before .args .tag)) (c .before .before .before .before .bounded .ensures) (c .before .before .r .given .1)
+returns-2 c =
+    let s1 = c .before .before in
+    let s2 = s1 .before .before in
+    let s3 = s2 .before .before in
+    ap (λ w. got w (s1 .r .given .0 .0 .next)) (c .word .ensures)
+    ∙ goes (word1 (s3 .args .tag)) (s2 .bounded .ensures) (s1 .r .given .1)
 
 pub one-operand-spec : {M : Type 1} → statement M
 one-operand-spec =

@@ -18,7 +18,11 @@ enum-told : tie.Need-enum-told
 enum-told c = search needs
 
 returns : tie.Need-returns
-returns c = stays (c .before .before .bounded .result) (c .before .match .keys2) (highAt (c .before .before .before .before .args .image .now)) (c .before .before .bounded .ensures)
+returns c =
+    let s1 = c .before in
+    let s2 = s1 .before in
+    let s3 = s2 .before .before in
+    stays (s2 .bounded .result) (s1 .match .keys2) (highAt (s3 .args .image .now)) (s2 .bounded .ensures)
 
 bounded-requires-2 : tie.Need-bounded-requires-2
 bounded-requires-2 c κs = search needs
@@ -30,17 +34,39 @@ enum-told-2 : tie.Need-enum-told-2
 enum-told-2 c = search needs
 
 returns-2 : tie.Need-returns-2
-returns-2 c = stays (c .before .before .bounded2 .result) (c .before .match2 .keys2) (word2 2 (c .before .before .before .before .r .given .0 .0 .value)) (c .before .before .bounded2 .ensures)
-    ∙ goes (highAt (c .before .before .before .before .before .before .before .before .args .image .now)) (c .before .before .before .before .before .before .bounded .ensures) (c .before .before .before .before .r .given .1)
+returns-2 c =
+    let s1 = c .before in
+    let s2 = s1 .before in
+    let s3 = s2 .before .before in
+    let s4 = s3 .before .before in
+    let s5 = s4 .before .before in
+    stays (s2 .bounded2 .result) (s1 .match2 .keys2) (word2 2 (s3 .r .given .0 .0 .value)) (s2 .bounded2 .ensures)
+    ∙ goes (highAt (s5 .args .image .now)) (s4 .bounded .ensures) (s3 .r .given .1)
 
 word-requires : tie.Need-word-requires
-word-requires c κs = let a = c .before .before .before .before .before .before .before .before .before .args in let lo = c .before .before .before .before .before .r .given .0 .0 in
-    omega (arith, under (a .image .now) 7 0 256 (a .at) (c .before .before .before .before .before .before .before .bounded .ensures) (c .before .before .before .before .before .r .given .1), under (a .image .now) 7 (lo .value) 256 (lo .next) (c .before .before .before .bounded2 .ensures) (c .before .h .given .1))
+word-requires c κs =
+    let s1 = c .before in
+    let s2 = s1 .before .before in
+    let s3 = s2 .before .before in
+    let s4 = s3 .before .before in
+    let s5 = s4 .before .before in
+    let a = s5 .args in let lo = s3 .r .given .0 .0 in
+    omega (
+      arith,
+      under (a .image .now) 7 0 256 (a .at) (s4 .bounded .ensures) (s3 .r .given .1),
+      under (a .image .now) 7 (lo .value) 256 (lo .next) (s2 .bounded2 .ensures) (s1 .h .given .1),
+    )
 
 returns-3 : tie.Need-returns-3
-returns-3 c = ap (λ w. got w (c .before .before .h .given .0 .0 .next)) (c .word .ensures)
-    ∙ goes (word2 2 (c .before .before .before .before .before .before .r .given .0 .0 .value)) (c .before .before .before .before .bounded2 .ensures) (c .before .before .h .given .1)
-    ∙ goes (highAt (c .before .before .before .before .before .before .before .before .before .before .args .image .now)) (c .before .before .before .before .before .before .before .before .bounded .ensures) (c .before .before .before .before .before .before .r .given .1)
+returns-3 c =
+    let s1 = c .before .before in
+    let s2 = s1 .before .before in
+    let s3 = s2 .before .before in
+    let s4 = s3 .before .before in
+    let s5 = s4 .before .before in
+    ap (λ w. got w (s1 .h .given .0 .0 .next)) (c .word .ensures)
+    ∙ goes (word2 2 (s3 .r .given .0 .0 .value)) (s2 .bounded2 .ensures) (s1 .h .given .1)
+    ∙ goes (highAt (s5 .args .image .now)) (s4 .bounded .ensures) (s3 .r .given .1)
 
 pub range-operands-spec : {M : Type 1} → statement M
 range-operands-spec =

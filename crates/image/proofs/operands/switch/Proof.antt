@@ -17,7 +17,11 @@ enum-told : tie.Need-enum-told
 enum-told c = search needs
 
 returns : tie.Need-returns
-returns c = stays (c .before .before .bounded .result) (c .before .match .keys2) (truthOf (c .before .before .before .before .args .image .now)) (c .before .before .bounded .ensures)
+returns c =
+    let s1 = c .before in
+    let s2 = s1 .before in
+    let s3 = s2 .before .before in
+    stays (s2 .bounded .result) (s1 .match .keys2) (truthOf (s3 .args .image .now)) (s2 .bounded .ensures)
 
 bounded-requires-2 : tie.Need-bounded-requires-2
 bounded-requires-2 c κs = search needs
@@ -29,19 +33,45 @@ enum-told-2 : tie.Need-enum-told-2
 enum-told-2 c = search needs
 
 returns-2 : tie.Need-returns-2
-returns-2 c = stays (c .before .before .bounded2 .result) (c .before .match2 .keys2) (switched (c .before .before .before .before .r .given .0 .0 .value)) (c .before .before .bounded2 .ensures)
-    ∙ goes (truthOf (c .before .before .before .before .before .before .before .before .args .image .now)) (c .before .before .before .before .before .before .bounded .ensures) (c .before .before .before .before .r .given .1)
+returns-2 c =
+    let s1 = c .before in
+    let s2 = s1 .before in
+    let s3 = s2 .before .before in
+    let s4 = s3 .before .before in
+    let s5 = s4 .before .before in
+    stays (s2 .bounded2 .result) (s1 .match2 .keys2) (switched (s3 .r .given .0 .0 .value)) (s2 .bounded2 .ensures)
+    ∙ goes (truthOf (s5 .args .image .now)) (s4 .bounded .ensures) (s3 .r .given .1)
 
 mul-t8 : tie.Need-mul-t8
-mul-t8 c = let a = c .before .before .before .before .before .before .before .before .before .before .args in omega (arith, under (a .image .now) 7 0 (a .conditions) (a .at) (c .before .before .before .before .before .before .before .before .bounded .ensures) (c .before .before .before .before .before .before .r .given .1))
+mul-t8 c =
+    let s1 = c .before .before .before .before .before .before in
+    let s2 = s1 .before .before in
+    let s3 = s2 .before .before in
+    let a = s3 .args in omega (arith, under (a .image .now) 7 0 (a .conditions) (a .at) (s2 .bounded .ensures) (s1 .r .given .1))
 
 add-t9 : tie.Need-add-t9
-add-t9 c = let a = c .before .before .before .before .before .before .before .before .before .before .before .args in let c' = c .before .before .before .before .before .before .before .r .given .0 .0 in
-    omega (arith, under (a .image .now) 7 0 (a .conditions) (a .at) (c .before .before .before .before .before .before .before .before .before .bounded .ensures) (c .before .before .before .before .before .before .before .r .given .1), under (a .image .now) 7 0 2 (c' .next) (c .before .before .before .before .before .bounded2 .ensures) (c .before .before .before .s .given .1))
+add-t9 c =
+    let s1 = c .before .before .before in
+    let s2 = s1 .before .before in
+    let s3 = s2 .before .before in
+    let s4 = s3 .before .before in
+    let s5 = s4 .before .before in
+    let a = s5 .args in let c' = s3 .r .given .0 .0 in
+    omega (
+      arith,
+      under (a .image .now) 7 0 (a .conditions) (a .at) (s4 .bounded .ensures) (s3 .r .given .1),
+      under (a .image .now) 7 0 2 (c' .next) (s2 .bounded2 .ensures) (s1 .s .given .1),
+    )
 
 returns-3 : tie.Need-returns-3
-returns-3 c = goes (switched (c .before .before .before .before .before .before .before .r .given .0 .0 .value)) (c .before .before .before .before .before .bounded2 .ensures) (c .before .before .before .s .given .1)
-    ∙ goes (truthOf (c .before .before .before .before .before .before .before .before .before .before .before .args .image .now)) (c .before .before .before .before .before .before .before .before .before .bounded .ensures) (c .before .before .before .before .before .before .before .r .given .1)
+returns-3 c =
+    let s1 = c .before .before .before in
+    let s2 = s1 .before .before in
+    let s3 = s2 .before .before in
+    let s4 = s3 .before .before in
+    let s5 = s4 .before .before in
+    goes (switched (s3 .r .given .0 .0 .value)) (s2 .bounded2 .ensures) (s1 .s .given .1)
+    ∙ goes (truthOf (s5 .args .image .now)) (s4 .bounded .ensures) (s3 .r .given .1)
 
 pub switch-spec : {M : Type 1} → statement M
 switch-spec =

@@ -20,35 +20,55 @@ enum-told : tie.Need-enum-told
 enum-told c = search needs
 
 returns : tie.Need-returns
-returns c = stays (c .before .before .bounded .result) (c .before .match .keys2) (bytesAt (c .before .before .before .before .args .image .now)) (c .before .before .bounded .ensures)
+returns c =
+    let s1 = c .before in
+    let s2 = s1 .before in
+    let s3 = s2 .before .before in
+    stays (s2 .bounded .result) (s1 .match .keys2) (bytesAt (s3 .args .image .now)) (s2 .bounded .ensures)
 
 cast-count : tie.Need-cast-count
 cast-count c = search needs
 
 returns-2 : tie.Need-returns-2
-returns-2 c = let a = c .before .before .before .before .before .before .before .args in let k = c .before .before .before .r .given .0 .0 in
+returns-2 c =
+    let s1 = c .before .before .before in
+    let s2 = s1 .before .before in
+    let s3 = s2 .before .before in
+    let a = s3 .args in let k = s1 .r .given .0 .0 in
     bytes-cut (a .image .now) (k .value) (k .next) (omega arith)
-    ∙ goes (bytesAt (a .image .now)) (c .before .before .before .before .before .bounded .ensures) (c .before .before .before .r .given .1)
+    ∙ goes (bytesAt (a .image .now)) (s2 .bounded .ensures) (s1 .r .given .1)
 
 returns-3 : tie.Need-returns-3
-returns-3 c = let a = c .before .before .before .before .before .before .before .before .args in let k = c .before .before .before .before .r .given .0 .0 in
+returns-3 c =
+    let s1 = c .before .before .before .before in
+    let s2 = s1 .before .before in
+    let s3 = s2 .before .before in
+    let a = s3 .args in let k = s1 .r .given .0 .0 in
     bytes-cut (a .image .now) (k .value) (k .next) (omega arith)
-    ∙ goes (bytesAt (a .image .now)) (c .before .before .before .before .before .before .bounded .ensures) (c .before .before .before .before .r .given .1)
+    ∙ goes (bytesAt (a .image .now)) (s2 .bounded .ensures) (s1 .r .given .1)
 
 cast-word : tie.Need-cast-word
 cast-word c = search needs
 
 word-requires : tie.Need-word-requires
-word-requires c κs = let a = c .before .before .before .before .before .before .before .before .args in omega (arith, under (a .image .now) 7 1 65 (a .at) (c .before .before .before .before .before .before .bounded .ensures) (c .before .before .before .before .r .given .1))
+word-requires c κs =
+    let s1 = c .before .before .before .before in
+    let s2 = s1 .before .before in
+    let s3 = s2 .before .before in
+    let a = s3 .args in omega (arith, under (a .image .now) 7 1 65 (a .at) (s2 .bounded .ensures) (s1 .r .given .1))
 
 add-t10 : tie.Need-add-t10
 add-t10 c = search needs
 
 returns-4 : tie.Need-returns-4
-returns-4 c = let a = c .before .before .before .before .before .before .before .before .before .args in let k = c .before .before .before .before .before .r .given .0 .0 in
+returns-4 c =
+    let s1 = c .before .before .before .before .before in
+    let s2 = s1 .before .before in
+    let s3 = s2 .before .before in
+    let a = s3 .args in let k = s1 .r .given .0 .0 in
     ap (λ w. got w (k .next + k .value)) (c .word .ensures)
     ∙ bytes-there (a .image .now) (k .value) (k .next) (omega arith)
-    ∙ goes (bytesAt (a .image .now)) (c .before .before .before .before .before .before .before .bounded .ensures) (c .before .before .before .before .before .r .given .1)
+    ∙ goes (bytesAt (a .image .now)) (s2 .bounded .ensures) (s1 .r .given .1)
 
 pub text-operands-spec : {M : Type 1} → statement M
 text-operands-spec =

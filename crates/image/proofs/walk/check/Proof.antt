@@ -18,14 +18,31 @@ enum-known-r : tie.Need-enum-known-r
 enum-known-r c = search needs
 
 cast-t7 : tie.Need-cast-t7
-cast-t7 c = let a = c .before .before .before .before .before .before .before .args in
-    omega (arith, place-small (a .image .now) (λ i. omega (arith, c .before .before .before .before .before .before .shared-slice-known .given i)) (c .before .before .r .given .1) (c .before .before .before .before .load .ensures .answer))
+cast-t7 c =
+    let s1 = c .before .before in
+    let s2 = s1 .before .before in
+    let s3 = s2 .before .before in
+    let s4 = s3 .before in
+    let a = s4 .args in
+    omega (
+      arith,
+      place-small (a .image .now) (λ i. omega (arith, s3 .shared-slice-known .given i)) (s1 .r .given .1)
+          (s2 .load .ensures .answer),
+    )
 
 returns : tie.Need-returns
-returns c = says-good (readImage (c .before .before .before .before .before .args .image .now)) (c .before .match .keys1) (c .before .before .load .ensures .answer)
+returns c =
+    let s1 = c .before in
+    let s2 = s1 .before in
+    let s3 = s2 .before .before .before in
+    says-good (readImage (s3 .args .image .now)) (s1 .match .keys1) (s2 .load .ensures .answer)
 
 returns-2 : tie.Need-returns-2
-returns-2 c = ap verdict (sym (says-refused (readImage (c .before .before .before .before .before .before .before .args .image .now)) (c .before .before .r .given .1) (c .before .before .before .before .load .ensures .answer)))
+returns-2 c =
+    let s1 = c .before .before in
+    let s2 = s1 .before .before in
+    let s3 = s2 .before .before .before in
+    ap verdict (sym (says-refused (readImage (s3 .args .image .now)) (s1 .r .given .1) (s2 .load .ensures .answer)))
 
 pub check-spec : {M : Type 1} → statement M
 check-spec = tie.close (tie.spec load-requires enum-told enum-known-r cast-t7 returns returns-2)

@@ -10,13 +10,16 @@ use Rattle.image.proofs.walk.fill_nodes.Statement.{statement}
 use Rattle.image.proofs.walk.fill_nodes.Tie as tie
 
 abbrev Inv-loop : tie.InvT-loop
-Inv-loop image code₀ start tables conditions nodes i₀ at₀ code i at = Filling (wordAt image tables conditions nodes) 0 nodes start code₀ code i at
+Inv-loop image code₀ start tables conditions nodes i₀ at₀ code i at =
+    Filling (wordAt image tables conditions nodes) 0 nodes start code₀ code i at
 
 abbrev μ-loop : tie.MeasureT-loop
 μ-loop image code₀ start tables conditions nodes i₀ at₀ code i at = nodes - i
 
 loop-holds : tie.Need-loop-holds Inv-loop μ-loop
-loop-holds c = let a = c .before .args in filling-starts (wordAt (a .image .now) (a .tables) (a .conditions) (a .nodes)) 0 (a .nodes) (a .start) (a .code .now)
+loop-holds c =
+    let a = c .before .args in
+    filling-starts (wordAt (a .image .now) (a .tables) (a .conditions) (a .nodes)) 0 (a .nodes) (a .start) (a .code .now)
 
 word-at-requires : tie.Need-word-at-requires Inv-loop μ-loop
 word-at-requires c κs = omega arith
@@ -28,8 +31,14 @@ enum-told : tie.Need-enum-told Inv-loop μ-loop
 enum-told c = search needs
 
 returns : tie.Need-returns Inv-loop μ-loop
-returns c = let a = c .before .before .before .before .before .before .args in
-    refused-at (wordAt (a .image .now) (a .tables) (a .conditions) (a .nodes)) 0 (a .nodes) (c .before .before .before .before .loop .inv) (omega arith) (c .before .before .word-at .result) (c .before .match .keys2) (c .before .before .word-at .ensures)
+returns c =
+    let s1 = c .before in
+    let s2 = s1 .before in
+    let s3 = s2 .before .before in
+    let s4 = s3 .before .before in
+    let a = s4 .args in
+    refused-at (wordAt (a .image .now) (a .tables) (a .conditions) (a .nodes)) 0 (a .nodes) (s3 .loop .inv) (omega arith)
+    (s2 .word-at .result) (s1 .match .keys2) (s2 .word-at .ensures)
 
 cast-code : tie.Need-cast-code Inv-loop μ-loop
 cast-code c = search needs
@@ -47,12 +56,21 @@ loop-less : tie.Need-loop-less Inv-loop μ-loop
 loop-less c = search needs
 
 loop-again : tie.Need-loop-again Inv-loop μ-loop
-loop-again c = let a = c .before .before .before .before .before .before .before .args in
-    put-down (wordAt (a .image .now) (a .tables) (a .conditions) (a .nodes)) 0 (a .nodes) (c .before .before .before .before .before .loop .inv) (c .before .before .before .before .before .loop .i) (omega arith) (omega arith) (c .before .before .before .word-at .ensures) (c .before .r .given .1)
+loop-again c =
+    let s1 = c .before in
+    let s2 = s1 .before .before in
+    let s3 = s2 .before .before in
+    let s4 = s3 .before .before in
+    let a = s4 .args in
+    put-down (wordAt (a .image .now) (a .tables) (a .conditions) (a .nodes)) 0 (a .nodes) (s3 .loop .inv) (s3 .loop .i) (omega arith)
+    (omega arith) (s2 .word-at .ensures) (s1 .r .given .1)
 
 returns-2 : tie.Need-returns-2 Inv-loop μ-loop
-returns-2 c = let a = c .before .before .before .args in
-    all-down (wordAt (a .image .now) (a .tables) (a .conditions) (a .nodes)) 0 (a .nodes) (c .before .loop .inv) (omega arith)
+returns-2 c =
+    let s1 = c .before in
+    let s2 = s1 .before .before in
+    let a = s2 .args in
+    all-down (wordAt (a .image .now) (a .tables) (a .conditions) (a .nodes)) 0 (a .nodes) (s1 .loop .inv) (omega arith)
 
 pub fill-nodes-spec : {M : Type 1} → statement M
 fill-nodes-spec =

@@ -16,7 +16,8 @@ abbrev μ-loop : tie.MeasureT-loop
 μ-loop image code₀ start tables nodes t₀ at₀ code t at = tables - t
 
 loop-holds : tie.Need-loop-holds Inv-loop μ-loop
-loop-holds c = let a = c .before .args in filling-starts (λ t. number (a .image .now) 7 0 (a .nodes)) 512 (a .tables) (a .start) (a .code .now)
+loop-holds c =
+    let a = c .before .args in filling-starts (λ t. number (a .image .now) 7 0 (a .nodes)) 512 (a .tables) (a .start) (a .code .now)
 
 bounded-requires : tie.Need-bounded-requires Inv-loop μ-loop
 bounded-requires c κs = omega arith
@@ -28,8 +29,14 @@ enum-told : tie.Need-enum-told Inv-loop μ-loop
 enum-told c = search needs
 
 returns : tie.Need-returns Inv-loop μ-loop
-returns c = let a = c .before .before .before .before .before .before .args in
-    refused-at (λ t. number (a .image .now) 7 0 (a .nodes)) 512 (a .tables) (c .before .before .before .before .loop .inv) (omega arith) (c .before .before .bounded .result) (c .before .match .keys2) (c .before .before .bounded .ensures)
+returns c =
+    let s1 = c .before in
+    let s2 = s1 .before in
+    let s3 = s2 .before .before in
+    let s4 = s3 .before .before in
+    let a = s4 .args in
+    refused-at (λ t. number (a .image .now) 7 0 (a .nodes)) 512 (a .tables) (s3 .loop .inv) (omega arith) (s2 .bounded .result)
+    (s1 .match .keys2) (s2 .bounded .ensures)
 
 add-code : tie.Need-add-code Inv-loop μ-loop
 add-code c = search needs
@@ -50,12 +57,21 @@ loop-less : tie.Need-loop-less Inv-loop μ-loop
 loop-less c = search needs
 
 loop-again : tie.Need-loop-again Inv-loop μ-loop
-loop-again c = let a = c .before .before .before .before .before .before .before .args in
-    put-down (λ t. number (a .image .now) 7 0 (a .nodes)) 512 (a .tables) (c .before .before .before .before .before .loop .inv) (512 + c .before .before .before .before .before .loop .t) (omega arith) (omega arith) (c .before .before .before .bounded .ensures) (c .before .r .given .1)
+loop-again c =
+    let s1 = c .before in
+    let s2 = s1 .before .before in
+    let s3 = s2 .before .before in
+    let s4 = s3 .before .before in
+    let a = s4 .args in
+    put-down (λ t. number (a .image .now) 7 0 (a .nodes)) 512 (a .tables) (s3 .loop .inv) (512 + s3 .loop .t) (omega arith) (omega arith)
+    (s2 .bounded .ensures) (s1 .r .given .1)
 
 returns-2 : tie.Need-returns-2 Inv-loop μ-loop
-returns-2 c = let a = c .before .before .before .args in
-    all-down (λ t. number (a .image .now) 7 0 (a .nodes)) 512 (a .tables) (c .before .loop .inv) (omega arith)
+returns-2 c =
+    let s1 = c .before in
+    let s2 = s1 .before .before in
+    let a = s2 .args in
+    all-down (λ t. number (a .image .now) 7 0 (a .nodes)) 512 (a .tables) (s1 .loop .inv) (omega arith)
 
 pub fill-patterns-spec : {M : Type 1} → statement M
 fill-patterns-spec =
