@@ -37,11 +37,11 @@ fn cut() {
     show(b"no byte at all", b"");
     show(b"ends where the tables are due", b"\x01");
     show(
-        b"ends inside the second byte of a number",
+        b"ends before the second byte of a number",
         b"\x01\x00\x00\x80",
     );
     show(
-        b"ends inside the third byte of a number",
+        b"ends before the third byte of a number",
         b"\x01\x00\x00\x80\x80",
     );
     show(b"ends where the start is due", b"\x01\x00\x00\x01");
@@ -164,6 +164,7 @@ fn scopes() {
     show(b"Local table", b"\x01\x01\x00\x02\x00\x00\x00\x10\x01\x00");
     show(b"Local a", b"\x01\x01\x00\x02\x00\x00\x00\x10\x00\x01");
     show(b"If condition", b"\x01\x00\x01\x01\x00\x11\x01\x00");
+    show(b"If with no condition", b"\x01\x00\x00\x01\x00\x11\x00\x00");
     show(b"If truth", b"\x01\x00\x01\x01\x00\x11\x00\x02");
     show(b"On condition", b"\x01\x00\x01\x02\x00\x00\x12\x01\x00\x00");
     show(b"On truth", b"\x01\x00\x01\x02\x00\x00\x12\x00\x02\x00");
@@ -182,16 +183,58 @@ fn left_over() {
     );
 }
 
-// 512 nodes are allowed. Refusal 1, placed at 0, is seen before all else: in 16,385 zeros also the edition is wrong, and in
-// 16,384 only that.
+// "the first fault is the answer": each image has a fault, and then ends or goes on badly.
+fn first_fault() {
+    show(b"edition, then cut", b"\x02");
+    show(b"T, then cut", b"\x01\x09");
+    show(b"T, then badly written", b"\x01\x09\x80\x00");
+    show(b"N, then cut", b"\x01\x00\x00\x00");
+    show(b"start, then cut", b"\x01\x01\x00\x01\x01");
+    show(b"pattern, then cut", b"\x01\x02\x00\x01\x00\x01");
+    show(b"Sequence a, then cut", b"\x01\x00\x00\x01\x00\x05\x00");
+    show(b"Range lo, then cut", b"\x01\x00\x00\x01\x00\x02\x80\x02");
+    show(
+        b"Block table, then cut",
+        b"\x01\x01\x00\x02\x00\x00\x00\x0F\x01",
+    );
+    show(b"If condition, then cut", b"\x01\x00\x01\x01\x00\x11\x01");
+    show(b"first node's tag, then cut", b"\x01\x00\x00\x02\x00\x13");
+}
+
+// Texts of 64 bytes; the most nodes; the longest good image: 244 texts of 64 bytes, one of 5 and 267 empty nodes. Refusal 1, placed
+// at 0, is seen before all else: in 16,385 zeros the edition is wrong too, and in 16,384 that is the first fault.
 fn sizes() {
-    let mut image = [0u8; 518];
+    let mut text = [0u8; 71];
+    text[0] = 1;
+    text[3] = 1;
+    text[5] = 4;
+    text[6] = 64;
+    show(b"Text of 64 bytes", &text);
+    show(b"Text of 64 bytes, 63 there", &text[..70]);
+    let mut nodes = [0u8; 518];
+    nodes[0] = 1;
+    nodes[3] = 128;
+    nodes[4] = 4;
+    show(b"512 nodes", &nodes);
+    show(b"16384 bytes, all good", &longest());
+    show(b"16385 zeros", &[0u8; 16385]);
+    show(b"16384 zeros", &[0u8; 16384]);
+}
+
+fn longest() -> [u8; 16384] {
+    let mut image = [0u8; 16384];
     image[0] = 1;
     image[3] = 128;
     image[4] = 4;
-    show(b"512 nodes", &image);
-    show(b"16385 zeros", &[0u8; 16385]);
-    show(b"16384 zeros", &[0u8; 16384]);
+    let mut n: usize = 0;
+    while n < 244 {
+        image[6 + n * 66] = 4;
+        image[7 + n * 66] = 64;
+        n += 1;
+    }
+    image[16110] = 4;
+    image[16111] = 5;
+    image
 }
 
 fn main() {
@@ -206,5 +249,6 @@ fn main() {
     operands();
     scopes();
     left_over();
+    first_fault();
     sizes();
 }

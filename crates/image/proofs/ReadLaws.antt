@@ -13,7 +13,7 @@ use Rattle.image.specs.declared.number.Read.the-variants.{Got, Refused}
 use Rattle.image.specs.Reading.{Reading, got, fault, pick, _then_}
 use Rattle.image.specs.ReadingLaws.{onward}
 use Rattle.image.specs.Number.{numberAt}
-use Rattle.image.specs.Image.{inside, number}
+use Rattle.image.specs.Image.{inside, bounded}
 use Rattle.image.specs.ImageLaws.{number-below}
 use Rattle.image.specs.Meant.{reading}
 
@@ -50,6 +50,6 @@ module _ (at low stop why : ℕ) where
 
 -- A number that was got is below what it must be below.
 pub under :
-    (image : List ℕ) (why low stop at : ℕ) {r : Read} {n : Number} → reading r ≡ number image why low stop at → r ≡ Got n
+    (image : List ℕ) (why low stop at : ℕ) {r : Read} {n : Number} → reading r ≡ bounded image why low stop at → r ≡ Got n
     → n .value < stop
 under image why low stop at e g = number-below image why low stop at (sym (ap reading g) ∙ e)

@@ -17,7 +17,7 @@ use Rattle.image.specs.declared.number.Read.the-variants.{Got}
 use Rattle.image.specs.Reading.{Reading, got, fault, pick, _then_}
 use Rattle.image.specs.ReadingLaws.{All, holds, stops, _▹_, of-got, then-assoc, then-ext}
 use Rattle.image.specs.Written.{bit}
-use Rattle.image.specs.Image.{number, raw, kinds, nodeAt}
+use Rattle.image.specs.Image.{bounded, raw, kinds, nodeAt}
 use Rattle.image.specs.ImageLaws.{number-all, bit-back}
 use Rattle.image.specs.Word.{packed, switch, kept, keep, wordAt}
 use Rattle.image.specs.Shapes.{word1, word2, switched, lastAt, highAt, bytesAt, truthOf, oneAt, twoAt, rangeAt, textAt, switchAt, ifAt, onAt}
@@ -57,31 +57,31 @@ one-kept : (x : Reading ℕ) (e : ℕ → Expr) → (x then λ a at. keep (e a) 
 one-kept x e = sym (then-assoc x (λ a at. got (e a) at) keep)
 
 two-kept : (image : List ℕ) (why low stop at : ℕ) (y : ℕ → ℕ → Reading ℕ) (e : ℕ → ℕ → Expr)
-    → (number image why low stop at then λ a at. y a at then λ b at. keep (e a b) at)
-    ≡ ((number image why low stop at then λ a at. y a at then λ b at. got (e a b) at) then keep)
+    → (bounded image why low stop at then λ a at. y a at then λ b at. keep (e a b) at)
+    ≡ ((bounded image why low stop at then λ a at. y a at then λ b at. got (e a b) at) then keep)
 two-kept image why low stop at y e =
     then-ext (λ a at. y a at then λ b at. keep (e a b) at) (λ a at. (y a at then λ b at. got (e a b) at) then keep)
     (number-all image why low stop at) (λ a at h. one-kept (y a at) (e a))
-    ∙ sym (then-assoc (number image why low stop at) (λ a at. y a at then λ b at. got (e a b) at) keep)
+    ∙ sym (then-assoc (bounded image why low stop at) (λ a at. y a at then λ b at. got (e a b) at) keep)
 
 module _ (image : List ℕ) (T C N own : ℕ) where
   -- The operands after a tag, as a word.
   abbrev pub operandsAt : (tag at : ℕ) → Reading ℕ
   operandsAt tag at = getD (kinds image T C N own) tag (fault 6) at then keep
 
-  pub word-of : (at : ℕ) → (number image 6 0 19 at then operandsAt) ≡ wordAt image T C N own at
-  word-of at = sym (then-assoc (number image 6 0 19 at) (λ tag at. getD (kinds image T C N own) tag (fault 6) at) keep)
+  pub word-of : (at : ℕ) → (bounded image 6 0 19 at then operandsAt) ≡ wordAt image T C N own at
+  word-of at = sym (then-assoc (bounded image 6 0 19 at) (λ tag at. getD (kinds image T C N own) tag (fault 6) at) keep)
 
   -- Empty; Byte; Range; Any; Text.
   pub empty-word : (tag at : ℕ) → tag < 1 → got (packed tag 0 0) at ≡ operandsAt tag at
   empty-word tag at h = between (λ n. got (packed n 0 0) at ≡ operandsAt n at) 0 1 tag (refl, tt) (omega arith) h
 
   pub byte-word : (tag at : ℕ) → 1 ≤ tag → tag < 2 → oneAt image tag 256 at ≡ operandsAt tag at
-  byte-word tag at = between (λ n. oneAt image n 256 at ≡ operandsAt n at) 1 1 tag (one-kept (number image 7 0 256 at) Byte, tt)
+  byte-word tag at = between (λ n. oneAt image n 256 at ≡ operandsAt n at) 1 1 tag (one-kept (bounded image 7 0 256 at) Byte, tt)
 
   pub range-word : (tag at : ℕ) → 2 ≤ tag → tag < 3 → rangeAt image at ≡ operandsAt tag at
   range-word tag at =
-      between (λ n. rangeAt image at ≡ operandsAt n at) 2 1 tag (two-kept image 7 0 256 at (λ lo. number image 7 lo 256) Range, tt)
+      between (λ n. rangeAt image at ≡ operandsAt n at) 2 1 tag (two-kept image 7 0 256 at (λ lo. bounded image 7 lo 256) Range, tt)
 
   pub any-word : (tag at : ℕ) → 3 ≤ tag → tag < 4 → got (packed tag 0 0) at ≡ operandsAt tag at
   any-word tag at = between (λ n. got (packed n 0 0) at ≡ operandsAt n at) 3 1 tag (refl, tt)
@@ -100,21 +100,21 @@ module _ (image : List ℕ) (T C N own : ℕ) where
   text-word tag at = between (λ n. textAt image at ≡ operandsAt n at) 4 1 tag (
     then-ext (bytesAt image) (λ k at. (raw image k at then λ bytes at. got (Text bytes) at) then keep) (number-all image 7 1 65 at)
         (λ k at h. text-kept k at (leb (at + k) (length image)) refl)
-        ∙ sym (then-assoc (number image 7 1 65 at) (λ k at. raw image k at then λ bytes at. got (Text bytes) at) keep),
+        ∙ sym (then-assoc (bounded image 7 1 65 at) (λ k at. raw image k at then λ bytes at. got (Text bytes) at) keep),
     tt,
   )
 
   -- Sequence, Choice; Star, Not; Call.
   pub pair-word : (tag at : ℕ) → 5 ≤ tag → tag < 7 → twoAt image tag own own at ≡ operandsAt tag at
   pair-word tag at = between (λ n. twoAt image n own own at ≡ operandsAt n at) 5 2 tag
-      (two-kept image 7 0 own at (λ a. number image 7 0 own) Sequence, (two-kept image 7 0 own at (λ a. number image 7 0 own) Choice, tt))
+      (two-kept image 7 0 own at (λ a. bounded image 7 0 own) Sequence, (two-kept image 7 0 own at (λ a. bounded image 7 0 own) Choice, tt))
 
   pub child-word : (tag at : ℕ) → 7 ≤ tag → tag < 9 → oneAt image tag own at ≡ operandsAt tag at
   child-word tag at = between (λ n. oneAt image n own at ≡ operandsAt n at) 7 2 tag
-      (one-kept (number image 7 0 own at) Star, (one-kept (number image 7 0 own at) Not, tt))
+      (one-kept (bounded image 7 0 own at) Star, (one-kept (bounded image 7 0 own at) Not, tt))
 
   pub call-word : (tag at : ℕ) → 9 ≤ tag → tag < 10 → oneAt image tag N at ≡ operandsAt tag at
-  call-word tag at = between (λ n. oneAt image n N at ≡ operandsAt n at) 9 1 tag (one-kept (number image 7 0 N at) Call, tt)
+  call-word tag at = between (λ n. oneAt image n N at ≡ operandsAt n at) 9 1 tag (one-kept (bounded image 7 0 N at) Call, tt)
 
   -- Def, Match, Is, Isa, Exists; Block, Local.
   pub table-word : (tag at : ℕ) → 10 ≤ tag → tag < 15 → oneAt image tag T at ≡ operandsAt tag at
@@ -122,25 +122,25 @@ module _ (image : List ℕ) (T C N own : ℕ) where
       (of Def, (of Match, (of Is, (of Isa, (of Exists, tt)))))
     where
       of :
-          (e : ℕ → Expr) → (number image 7 0 T at then λ a at. keep (e a) at)
-          ≡ ((number image 7 0 T at then λ a at. got (e a) at) then keep)
-      of = one-kept (number image 7 0 T at)
+          (e : ℕ → Expr) → (bounded image 7 0 T at then λ a at. keep (e a) at)
+          ≡ ((bounded image 7 0 T at then λ a at. got (e a) at) then keep)
+      of = one-kept (bounded image 7 0 T at)
 
   pub scope-word : (tag at : ℕ) → 15 ≤ tag → tag < 17 → twoAt image tag T own at ≡ operandsAt tag at
   scope-word tag at = between (λ n. twoAt image n T own at ≡ operandsAt n at) 15 2 tag
-      (two-kept image 7 0 T at (λ t. number image 7 0 own) Block, (two-kept image 7 0 T at (λ t. number image 7 0 own) Local, tt))
+      (two-kept image 7 0 T at (λ t. bounded image 7 0 own) Block, (two-kept image 7 0 T at (λ t. bounded image 7 0 own) Local, tt))
 
   -- If; On. A truth that was read is the bit of the Bool that it stands for.
   switch-then : (at : ℕ) (k : ℕ → ℕ → Reading ℕ) (e : ℕ → ℕ → ℕ → Reading Expr)
       → ((c w at : ℕ) → w < 2 → k (switch c w) at ≡ (e c w at then keep))
-      → (switchAt image C at then k) ≡ ((number image 7 0 C at then λ c at. number image 7 0 2 at then e c) then keep)
+      → (switchAt image C at then k) ≡ ((bounded image 7 0 C at then λ c at. bounded image 7 0 2 at then e c) then keep)
   switch-then at k e same =
-      then-assoc (number image 7 0 C at) (truthOf image) k
-      ∙ then-ext (λ c at. truthOf image c at then k) (λ c at. (number image 7 0 2 at then e c) then keep) (number-all image 7 0 C at)
-      (λ c at h. then-assoc (number image 7 0 2 at) (switched c) k
+      then-assoc (bounded image 7 0 C at) (truthOf image) k
+      ∙ then-ext (λ c at. truthOf image c at then k) (λ c at. (bounded image 7 0 2 at then e c) then keep) (number-all image 7 0 C at)
+      (λ c at h. then-assoc (bounded image 7 0 2 at) (switched c) k
       ∙ then-ext (λ w at. k (switch c w) at) (λ w at. e c w at then keep) (number-all image 7 0 2 at) (λ w at l. same c w at l)
-      ∙ sym (then-assoc (number image 7 0 2 at) (e c) keep))
-      ∙ sym (then-assoc (number image 7 0 C at) (λ c at. number image 7 0 2 at then e c) keep)
+      ∙ sym (then-assoc (bounded image 7 0 2 at) (e c) keep))
+      ∙ sym (then-assoc (bounded image 7 0 C at) (λ c at. bounded image 7 0 2 at then e c) keep)
 
   pub if-word : (tag at : ℕ) → 17 ≤ tag → tag < 18 → ifAt image C at ≡ operandsAt tag at
   if-word tag at = between (λ n. ifAt image C at ≡ operandsAt n at) 17 1 tag
@@ -148,8 +148,8 @@ module _ (image : List ℕ) (T C N own : ℕ) where
 
   pub on-word : (tag at : ℕ) → 18 ≤ tag → tag < 19 → onAt image C own at ≡ operandsAt tag at
   on-word tag at = between (λ n. onAt image C own at ≡ operandsAt n at) 18 1 tag (
-    switch-then at (lastAt image 18 own) (λ c w at. number image 7 0 own at then λ a at. got (On c (eqb w 1) a) at)
-        (λ c w at l. ap (λ b. number image 7 0 own at then λ a at. got (packed 18 (switch c b) a) at) (sym (bit-back w l))
-        ∙ one-kept (number image 7 0 own at) (λ a. On c (eqb w 1) a)),
+    switch-then at (lastAt image 18 own) (λ c w at. bounded image 7 0 own at then λ a at. got (On c (eqb w 1) a) at)
+        (λ c w at l. ap (λ b. bounded image 7 0 own at then λ a at. got (packed 18 (switch c b) a) at) (sym (bit-back w l))
+        ∙ one-kept (bounded image 7 0 own at) (λ a. On c (eqb w 1) a)),
     tt,
   )

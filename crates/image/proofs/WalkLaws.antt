@@ -13,10 +13,10 @@ use Rattle.image.specs.declared.walk.Loaded.{Loaded}
 use Rattle.image.specs.declared.walk.Loaded.the-variants.{Good, Refused}
 use Rattle.image.specs.Reading.{Reading, got, fault, pick, _then_}
 use Rattle.image.specs.ReadingLaws.{onward, then-assoc, of-got}
-use Rattle.image.specs.Image.{times, Head, number, nodeAt, headAt, patternsAt, nodesAt, bodyAt, Checked, good, refused, ended, readImage}
+use Rattle.image.specs.Image.{times, Head, bounded, nodeAt, headAt, patternsAt, nodesAt, bodyAt, Checked, good, refused, ended, readImage}
 use Rattle.image.specs.Word.{keep, wordAt}
 use Rattle.image.specs.Filled.{unless, counted, filling, filled, withPatterns, withNodes, Loads}
-use Rattle.image.specs.LoadLaws.{Through, through, through-fault, times-count, made, afterPatterns, nodes-kept, patterns-kept}
+use Rattle.image.specs.LoadLaws.{Through, through, through-fault, times-count, made, afterPatterns, nodes-kept, texts-kept, patterns-kept}
 use Rattle.image.specs.Meant.{answered}
 
 pub record Walk (image before after : List ℕ) (r : Loaded) : Type 0 where
@@ -31,6 +31,7 @@ promised {image} {before} {after} bytes room w = record {
   answer = w .answer;
   array = w .array;
   nodes = λ g e n l. rw (w .array) (nodes-kept image bytes before room g e n l);
+  texts = λ g e n l. rw (w .array) (texts-kept image bytes before room g e n l);
   patterns = λ g e t l. rw (w .array) (patterns-kept image bytes before room g e t l);
 }
 
@@ -136,7 +137,7 @@ module _ (image : List ℕ) (code : List ℕ) where
               (Good (h .tables) (h .conditions) (h .nodes) (h .start))
           all-good l =
               let T : length (ps .value)
-              ≡ h .tables = of-got (rw patterns-are at (times-count (λ t. number image 7 0 (h .nodes)) 0 (h .tables) at)) in
+              ≡ h .tables = of-got (rw patterns-are at (times-count (λ t. bounded image 7 0 (h .nodes)) 0 (h .tables) at)) in
               let N : length (xs .value)
               ≡ h .nodes = of-got (rw nodes-are at
               (times-count (nodeAt image (h .tables) (h .conditions) (h .nodes)) 0 (h .nodes) next)) in

@@ -5,10 +5,10 @@ use mathlib.Core.List.{List, [], _∷_, _++_, map}
 use lib.ListN.{replicate}
 use Rattle.grammar.specs.Expr.{Empty, Byte, Range, Sequence, Star, Def, Is}
 use Rattle.grammar.specs.Grammar.{Grammar}
-use Rattle.image.specs.Reading.{Reading, got, fault}
+use Rattle.image.specs.Reading.{got, fault}
 use Rattle.image.specs.Number.{groups, numberAt}
 use Rattle.image.specs.Written.{encode}
-use Rattle.image.specs.Image.{Checked, good, refused, readImage}
+use Rattle.image.specs.Image.{good, refused, readImage}
 
 -- "127 is `7F`, 128 `80 01`, 16,383 `FF 7F`, 16,384 `80 80 01`."
 numbers-written :

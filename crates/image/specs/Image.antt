@@ -1,7 +1,7 @@
 -- How an image is read, front to back: the grammar that it stands for, or the first fault with its number and place.
 -- 01, "The image", and refusals 1 to 8 of its table.
 use Prim.Native.Nat.{ℕ, zero, suc, _+_}
-use mathlib.Core.Bool.{Bool, true, false}
+use mathlib.Core.Bool.{Bool, false}
 use mathlib.Core.List.{List, [], _∷_}
 use lib.Dec.{leb, ltb, eqb}
 use lib.ListN.{drop, take, length, getD}
@@ -14,8 +14,8 @@ use Rattle.image.specs.Number.{numberAt}
 abbrev pub inside : ℕ → ℕ → ℕ → Bool
 inside low stop n = pick (leb low n) (ltb n stop) false
 
--- So many readings, one after the other; each is told its own number.
-abbrev pub times : {A : Type 0} → (ℕ → ℕ → Reading A) → ℕ → ℕ → ℕ → Reading (List A)
+-- k readings from the i-th on, one after the other; each is told its own number.
+abbrev pub times : {A : Type 0} → (ℕ → ℕ → Reading A) → (i k at : ℕ) → Reading (List A)
 times p i zero at = got [] at
 times p i (suc k) at = p i at then λ x at. times p (suc i) k at then λ xs at. got (x ∷ xs) at
 
@@ -29,16 +29,17 @@ pub record Head : Type 0 where
 module _ (image : List ℕ) where
   -- A number of the image that is at least `low` and below `stop`, else the refusal `why`, placed at the number. What is cut
   -- or badly written is 2 or 3 before its range is looked at.
-  abbrev pub number : (why low stop at : ℕ) → Reading ℕ
-  number why low stop at = numberAt image at then λ n next. pick (inside low stop n) (got n next) (fault why at)
+  abbrev pub bounded : (why low stop at : ℕ) → Reading ℕ
+  bounded why low stop at = numberAt image at then λ n next. pick (inside low stop n) (got n next) (fault why at)
 
   -- The same for a range that 01 gives by both its ends: "T (0 to 8)".
   abbrev pub within : (why low high at : ℕ) → Reading ℕ
-  within why low high = number why low (suc high)
+  within why low high = bounded why low (suc high)
 
-  -- The same for a number that 01 wants below another: start, patterns and operands. Refusal 7.
+  -- The same for a number that 01 wants below another: start, patterns, and operands that name a node, a table or a condition.
+  -- Refusal 7.
   abbrev pub below : (stop at : ℕ) → Reading ℕ
-  below = number 7 0
+  below = bounded 7 0
 
   -- k raw bytes. An image that ends inside them is cut: refusal 2.
   abbrev pub raw : (k at : ℕ) → Reading (List ℕ)
@@ -49,8 +50,8 @@ module _ (image : List ℕ) where
   truthAt = within 7 0 1
 
   module _ (T C N own : ℕ) where
-    -- The operands of each kind, by its tag: 01's table, line by line. A range's hi is at least its lo, so a lo above hi is
-    -- a fault of hi; a lo over 255 is a fault of lo, and comes first.
+    -- The operands of each kind, by its tag: 01's table, line by line. A range's hi is at least its lo: "For a range the fault is
+    -- placed at hi when lo is above hi." That a lo over 255 is a fault of lo, and comes first, is our reading (DECISIONS, 1).
     abbrev pub kinds : List (ℕ → Reading Expr)
     kinds =
         (λ at. got Empty at)
@@ -74,7 +75,8 @@ module _ (image : List ℕ) where
         ∷ (λ at. below C at then λ c at. truthAt at then λ w at. below own at then λ a at. got (On c (eqb w 1) a) at)
         ∷ []
 
-    -- A node: its tag, 0 to 18 (else refusal 6), and its operands.
+    -- A node: its tag, 0 to 18 (else refusal 6, placed at the tag), and its operands. Each tag has its line above, so the default that
+    -- `getD` asks for is never reached.
     abbrev pub nodeAt : ℕ → Reading Expr
     nodeAt at = within 6 0 18 at then λ tag at. getD kinds tag (fault 6) at
 

@@ -12,7 +12,7 @@ use Rattle.image.specs.Reading.{Reading, got, fault, pick, _then_}
 use Rattle.image.specs.ReadingLaws.{All, holds, stops, of-got, pick-all}
 use Rattle.image.specs.Number.{groups, numberAt}
 use Rattle.image.specs.Written.{numbers, bit}
-use Rattle.image.specs.Image.{inside, number}
+use Rattle.image.specs.Image.{inside, bounded}
 
 infixr 20 _&_
 -- Each element of a list, with its number counted from i.
@@ -71,7 +71,7 @@ bit-back (suc zero) h = refl
 bit-back (suc (suc n)) h = absurd (omega arith)
 
 -- A number that was read is below what it must be below.
-pub number-all : (image : List ℕ) (why low stop at : ℕ) → All (λ n next. n < stop) (λ n place. Unit {0}) (number image why low stop at)
+pub number-all : (image : List ℕ) (why low stop at : ℕ) → All (λ n next. n < stop) (λ n place. Unit {0}) (bounded image why low stop at)
 number-all image why low stop at = go (numberAt image at)
   where
     go :
@@ -80,5 +80,5 @@ number-all image why low stop at = go (numberAt image at)
     go (got n next) = pick-all (inside low stop n) (λ t. holds (inside-high low stop n t)) (λ _. stops tt)
     go (fault n place) = stops tt
 
-pub number-below : (image : List ℕ) (why low stop at : ℕ) {n next : ℕ} → got n next ≡ number image why low stop at → n < stop
+pub number-below : (image : List ℕ) (why low stop at : ℕ) {n next : ℕ} → got n next ≡ bounded image why low stop at → n < stop
 number-below image why low stop at e = of-got (rw (← e) at (number-all image why low stop at))

@@ -16,11 +16,11 @@ use Rattle.image.specs.ReadingLaws.{All, holds, stops, _▹_, of-got}
 use Rattle.image.specs.NumberLaws.{Refusal}
 use Rattle.image.specs.Number.{groups}
 use Rattle.image.specs.Written.{written, numbers, encodeNode}
-use Rattle.image.specs.Image.{times, Head, number, nodeAt, headAt, patternsAt, nodesAt, bodyAt, Checked, good, refused, ended, readImage}
+use Rattle.image.specs.Image.{times, Head, bounded, nodeAt, headAt, patternsAt, nodesAt, bodyAt, Checked, good, refused, ended, readImage}
 use Rattle.image.specs.OnlyWritten.{Front, One, Many, HeadRead, node-all, pattern-all, times-all, head-all}
 use Rattle.image.specs.Word.{kept, keep, wordAt}
-use Rattle.image.specs.Node.{nodeOf, exprOf}
-use Rattle.image.specs.NodeLaws.{Placed, kept-back}
+use Rattle.image.specs.Node.{nodeOf, exprOf, InImage}
+use Rattle.image.specs.NodeLaws.{EndAt, Placed, kept-back, kept-inside}
 use Rattle.image.specs.Filled.{unless, filling, filled, withPatterns, withNodes}
 use Rattle.image.specs.FilledLaws.{filling-at, filling-other, filling-length}
 
@@ -125,21 +125,23 @@ unfolding nodeOf
 zero-empty image = refl
 
 module _ (image : List ℕ) (bytes : Bytes image) (short : length image ≤ 16384) where
-  text-placed :
-      (v s : List ℕ) (next : ℕ) → take next image ≡ v ++ s → next ≤ length image → take (length s) (drop (next - length s) image) ≡ s
+  text-placed : (v s : List ℕ) (next : ℕ) → take next image ≡ v ++ s → next ≤ length image → EndAt image s next
   text-placed v s next e h =
+      let sum : length v + length s ≡ next = sym (simp length-append at (ap length e)) ∙ length-take-le next image h in
       let whole : image ≡ (v ++ s) ++ drop next image = sym (take-append-drop next image) ∙ ap (λ l. l ++ drop next image) e in
-      let before : next - length s ≡ length v = omega (arith, length-take-le next image h, simp length-append at (ap length e)) in
-      rw before (ap (λ l. take (length s) (drop (length v) l)) whole
-      ∙ rw (append-assoc v s (drop next image), drop-append-seam v (s ++ drop next image), take-append-seam s (drop next image)))
+      let before : next - length s ≡ length v = omega arith in
+      record {
+        long = omega arith;
+        inside = h;
+        small = omega arith;
+        is = rw before (ap (λ l. take (length s) (drop (length v) l)) whole
+            ∙ rw (append-assoc v s (drop next image), drop-append-seam v (s ++ drop next image), take-append-seam s (drop next image)));
+      }
 
   -- The bytes of a Text stand right before the place where its node ends.
   placed : (x : Expr) (u : List ℕ) {next : ℕ} → Front image (u ++ encodeNode x) next → Placed image x next
-  placed x u {next} f s e = (
-    omega (arith, f .within),
-    text-placed (u ++ numbers (4 ∷ length s ∷ [])) s next
-        (f .front ∙ ap (λ x. u ++ encodeNode x) e ∙ sym (append-assoc u (numbers (4 ∷ length s ∷ [])) s)) (f .within),
-  )
+  placed x u {next} f s e = text-placed (u ++ numbers (4 ∷ length s ∷ [])) s next
+      (f .front ∙ ap (λ x. u ++ encodeNode x) e ∙ sym (append-assoc u (numbers (4 ∷ length s ∷ [])) s)) (f .within)
 
   module _ (T C N : ℕ) (few : (T ≤ 512) × (C ≤ 512) × (N ≤ 512)) where
     abbrev Read : (i k at : ℕ) → Type 0
@@ -173,6 +175,34 @@ module _ (image : List ℕ) (bytes : Bytes image) (short : length image ≤ 1638
             ∙ ap (λ r. r then λ xs at. got (x ∷ xs) at) (later x next o)
         one (fault n place) h later = refl
 
+    -- Every Text among the words of the nodes has its bytes in the image.
+    record Step (w next : ℕ) : Type 0 where
+      pub inside : InImage image (nodeOf w)
+      pub before : List ℕ
+      pub on : Front image before next
+
+    word-inside : (i at : ℕ) (u : List ℕ) → i ≤ 512 → Front image u at → All Step (Refusal (length image)) (wordAt image T C N i at)
+    word-inside i at u h f = node-all image bytes T C N i f ▹ λ x next o. holds (record {
+      inside = kept-inside image T C N i (omega arith) x (o .fits) next (placed x u (o .on));
+      before = u ++ encodeNode x;
+      on = o .on;
+    })
+
+    abbrev Inside : List ℕ → ℕ → Type 0
+    Inside ws next = (n : ℕ) → n < length ws → InImage image (nodeOf (getD ws n 0))
+
+    words-inside :
+        (i k at : ℕ) (u : List ℕ) → i + k ≤ N → Front image u at
+        → All Inside (Refusal (length image)) (times (wordAt image T C N) i k at)
+    words-inside i zero at u h f = holds {x = []} {next = at} (λ n l. absurd (omega arith))
+    words-inside i (suc k) at u h f =
+        word-inside i at u (omega arith) f ▹ λ w next s. words-inside (suc i) k next (s .before) (omega arith) (s .on) ▹ λ ws end rest.
+        holds (each w ws (s .inside) rest)
+      where
+        each : (w : ℕ) (ws : List ℕ) → InImage image (nodeOf w) → ((n : ℕ) → n < length ws → InImage image (nodeOf (getD ws n 0))) → Inside (w ∷ ws) 0
+        each w ws first rest zero l = first
+        each w ws first rest (suc n) l = rest n (omega arith)
+
 -- ## A good image
 
 module _ (image : List ℕ) (bytes : Bytes image) (before : List ℕ) (room : length before ≡ 520) where
@@ -187,28 +217,49 @@ module _ (image : List ℕ) (bytes : Bytes image) (before : List ℕ) (room : le
 
     patterns-read : Many image (λ i a. a < h .nodes) groups 0 (h .tables) (take at image) ps next
     patterns-read =
-        of-got (rw ep at (times-all image (λ i a. a < h .nodes) groups (λ i. number image 7 0 (h .nodes))
+        of-got (rw ep at (times-all image (λ i a. a < h .nodes) groups (λ i. bounded image 7 0 (h .nodes))
         (pattern-all image bytes (h .nodes)) 0 (h .tables) (take at image) at
         (record { front = refl; within = head-read .on .within })))
 
+    abbrev words : ℕ → ℕ → Reading ℕ
+    words = wordAt image (h .tables) (h .conditions) (h .nodes)
+
+    here : Front image (take next image) next
+    here = record { front = refl; within = patterns-read .on .within }
+
+    few : (h .tables ≤ 512) × (h .conditions ≤ 512) × (h .nodes ≤ 512)
+    few = omega (arith, head-read)
+
+    -- The words that were read.
+    read : Through (times words 0 (h .nodes) next) (λ ws next. got (map (visited image) ws) next) xs end
+    read = through (times words 0 (h .nodes) next) (λ ws next. got (map (visited image) ws) next)
+        (words-read image bytes short (h .tables) (h .conditions) (h .nodes) few 0 (h .nodes) next (take next image) (omega arith) here ∙ ex)
+
+    count : length xs ≡ h .nodes
+    count = of-got (rw ex at (times-count (nodeAt image (h .tables) (h .conditions) (h .nodes)) 0 (h .nodes) next))
+
+    -- Each stands at its node's number.
+    word-at : (n : ℕ) → n < length xs → getD (filled image before) n 0 ≡ getD (read .value) n 0
+    word-at n l =
+        let own : 0 + (0 + n) ≡ n = omega arith in
+        let long : length (withPatterns image h at before) ≡ 520 = filling-length (λ t. bounded image 7 0 (h .nodes)) 512 0 (h .tables) at before ∙ room in
+        ap (λ l. getD l n 0) array-is
+        ∙ rw own at (filling-at words 0 0 (h .nodes) next n (withPatterns image h at before) (read .value) (read .next) (read .first)
+        (omega (arith, count)) (omega (arith, few .2)))
+
     pub nodes-at : (n : ℕ) → n < length xs → visited image (getD (filled image before) n 0) ≡ getD xs n Empty
     nodes-at n l =
-        let T = h .tables in let C = h .conditions in let N = h .nodes in
-        let words = wordAt image T C N in
-        let here : Front image (take next image) next = record { front = refl; within = patterns-read .on .within } in
-        let r = head-read in
-        let t = through (times words 0 N next) (λ ws next. got (map (visited image) ws) next)
-        (words-read image bytes short T C N (omega arith) 0 N next (take next image) (omega arith) here ∙ ex) in
-        let same : map (visited image) (t .value) ≡ xs = cc (t .rest) in
-        let count : length xs ≡ N = of-got (rw ex at (times-count (nodeAt image T C N) 0 N next)) in
-        let own : 0 + (0 + n) ≡ n = omega arith in
-        let long : length (withPatterns image h at before) ≡ 520 = filling-length (λ t. number image 7 0 N) 512 0 T at before ∙ room in
-        ap (λ l. visited image (getD l n 0)) array-is
-        ∙ ap (visited image) (rw own at
-        (filling-at words 0 0 N next n (withPatterns image h at before) (t .value) (t .next) (t .first) (omega arith) (omega arith)))
-        ∙ sym (List·getD-map (visited image) (t .value) n 0)
-        ∙ ap (λ d. getD (map (visited image) (t .value)) n d) (zero-empty image)
+        let same : map (visited image) (read .value) ≡ xs = cc (read .rest) in
+        ap (visited image) (word-at n l)
+        ∙ sym (List·getD-map (visited image) (read .value) n 0)
+        ∙ ap (λ d. getD (map (visited image) (read .value)) n d) (zero-empty image)
         ∙ ap (λ l. getD l n Empty) same
+
+    pub texts-at : (n : ℕ) → n < length xs → InImage image (nodeOf (getD (filled image before) n 0))
+    texts-at n l =
+        let all = of-got (rw (read .first) at (words-inside image bytes short (h .tables) (h .conditions) (h .nodes) few 0 (h .nodes) next (take next image) (omega arith) here)) in
+        let many : length (read .value) ≡ h .nodes = of-got (rw (read .first) at (times-count words 0 (h .nodes) next)) in
+        rw (word-at n l) (all n (omega (arith, count)))
 
     pub patterns-at : (t : ℕ) → t < length ps → getD (filled image before) (512 + t) 0 ≡ getD ps t 0
     patterns-at t l =
@@ -218,7 +269,7 @@ module _ (image : List ℕ) (bytes : Bytes image) (before : List ℕ) (room : le
         ap (λ l. getD l (512 + t) 0) array-is
         ∙ filling-other (wordAt image (h .tables) (h .conditions) (h .nodes)) 0 0 (h .nodes) next (512 + t)
         (withPatterns image h at before) (λ m l e. omega arith)
-        ∙ rw own at (filling-at (λ t. number image 7 0 (h .nodes)) 512 0 (h .tables) at t before ps next ep (omega arith) (omega arith))
+        ∙ rw own at (filling-at (λ t. bounded image 7 0 (h .nodes)) 512 0 (h .tables) at t before ps next ep (omega arith) (omega arith))
 
   module _ (g : Grammar) (e : readImage image ≡ good g) where
     pub nodes-kept : (n : ℕ) → n < size g → exprOf image (nodeOf (getD (filled image before) n 0)) ≡ node g n
@@ -226,6 +277,12 @@ module _ (image : List ℕ) (bytes : Bytes image) (before : List ℕ) (room : le
         let p = parts-of image g e in
         let same : p .nodes ≡ g .nodes = ap (λ g. g .nodes) (p .whole) in
         nodes-at (p .short) (p .head-is) (p .patterns-are) (p .nodes-are) n (rw same l) ∙ ap (λ l. getD l n Empty) same
+
+    pub texts-kept : (n : ℕ) → n < size g → InImage image (nodeOf (getD (filled image before) n 0))
+    texts-kept n l =
+        let p = parts-of image g e in
+        let same : p .nodes ≡ g .nodes = ap (λ g. g .nodes) (p .whole) in
+        texts-at (p .short) (p .head-is) (p .patterns-are) (p .nodes-are) n (rw same l)
 
     pub patterns-kept : (t : ℕ) → t < tables g → getD (filled image before) (512 + t) 0 ≡ pattern g t
     patterns-kept t l =

@@ -17,9 +17,9 @@ reading (Got n) = got (n .value) (n .next)
 reading (Refused f) = fault (f .number) (f .place)
 
 -- The numbers that an image begins with and the place after them, or a refusal.
-abbrev pub heading : Header → Reading Head
-heading (Found h) = got (record { tables = h .tables; conditions = h .conditions; nodes = h .nodes; start = h .start }) (h .next)
-heading (NoHead f) = fault (f .number) (f .place)
+abbrev pub header : Header → Reading Head
+header (Found h) = got (record { tables = h .tables; conditions = h .conditions; nodes = h .nodes; start = h .start }) (h .next)
+header (NoHead f) = fault (f .number) (f .place)
 
 -- What the walk says of an image: T, C, N and the start node of its grammar, or the refusal.
 abbrev pub answered : Checked → Loaded

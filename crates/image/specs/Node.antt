@@ -1,18 +1,21 @@
 -- The node that a word keeps, and the expression that a node stands for.
-use Prim.Native.Nat.{ℕ, _/_, _%_}
+use Prim.Native.Nat.{ℕ, _+_, _/_, _%_, _≤_}
+use mathlib.Core.Path.{_≡_}
 use mathlib.Core.List.{List, [], _∷_}
 use lib.Dec.{eqb}
-use lib.ListN.{take, drop, getD}
+use lib.ListN.{length, take, drop, getD}
 use Rattle.grammar.specs.Expr as e
 use Rattle.image.specs.declared.node.Node.{Node}
 use Rattle.image.specs.declared.node.Node.the-variants.{Empty, Byte, Range, Any, Text, Sequence, Choice, Star, Not, Call, Def, Match, Is, Isa, Exists, Block, Local, If, On}
 
--- The kinds by their tags, but the last.
+-- The kinds by their tags, but the last. A byte is taken below 256, so that it fits a byte whatever the word is; in the word of a good
+-- image it is so already.
 abbrev pub listed : (a b : ℕ) → List Node
 listed a b =
     Empty ∷ Byte (a % 256) ∷ Range (a % 256) (b % 256) ∷ Any ∷ Text a b ∷ Sequence a b ∷ Choice a b ∷ Star a ∷ Not a ∷ Call a
     ∷ Def a ∷ Match a ∷ Is a ∷ Isa a ∷ Exists a ∷ Block a b ∷ Local a b ∷ If (a / 2) (eqb (a % 2) 1) ∷ []
 
+-- Any tag over 17 gives On; no word of a good image has a tag over 18.
 abbrev pub kindOf : (tag a b : ℕ) → Node
 kindOf tag a b = getD (listed a b) tag (On (a / 2) (eqb (a % 2) 1) b)
 
@@ -40,3 +43,7 @@ exprOf image (Block t a) = e.Block t a
 exprOf image (Local t a) = e.Local t a
 exprOf image (If c truth) = e.If c truth
 exprOf image (On c truth a) = e.On c truth a
+
+-- The bytes of a Text lie in the image.
+abbrev pub InImage : (image : List ℕ) → Node → Type 0
+InImage image node = (place count : ℕ) → node ≡ Text place count → place + count ≤ length image

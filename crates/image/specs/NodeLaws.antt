@@ -1,6 +1,6 @@
 -- Laws of words and nodes: what a word was made of is what it is taken apart into.
 use Prim.Native.Nat.{ℕ, zero, suc, _+_, _-_, _*_, _/_, _%_, _≤_, _<_}
-use mathlib.Core.Path.{_≡_, refl, ap, ap₂, sym, _∙_}
+use mathlib.Core.Path.{_≡_, refl, ap, ap₂, sym, subst, _∙_}
 use mathlib.Core.Bool.{Bool, true, false}
 use mathlib.Core.List.{List}
 use native.Mathlib.Omega.{arith}
@@ -10,10 +10,10 @@ use lib.ListN.{take, drop, length, List·getD-eq-default}
 use Rattle.grammar.specs.Expr as e
 use Rattle.grammar.specs.Sound.{Fits}
 use Rattle.image.specs.declared.node.Node.{Node}
-use Rattle.image.specs.declared.node.Node.the-variants.{On}
+use Rattle.image.specs.declared.node.Node.the-variants.{Text, On}
 use Rattle.image.specs.Written.{bit}
 use Rattle.image.specs.Word.{packed, switch, kept}
-use Rattle.image.specs.Node.{listed, kindOf, nodeOf, exprOf}
+use Rattle.image.specs.Node.{listed, kindOf, nodeOf, exprOf, InImage}
 
 -- ## By the tag of a word
 
@@ -84,10 +84,16 @@ switch-small : (c : ℕ) (truth : Bool) → c < 512 → switch c (bit truth) < 3
 switch-small c true h = omega arith
 switch-small c false h = omega arith
 
--- If x is a Text that ends at `next`, its bytes stand before that place.
+-- Bytes that end at a place of the image.
+pub record EndAt (image bytes : List ℕ) (next : ℕ) : Type 0 where
+  pub long : length bytes ≤ next
+  pub inside : next ≤ length image
+  pub small : next < 32768
+  pub is : take (length bytes) (drop (next - length bytes) image) ≡ bytes
+
+-- If x is a Text, its bytes end at `next`.
 abbrev pub Placed : (image : List ℕ) → e.Expr → (next : ℕ) → Type 0
-Placed image x next =
-    (bytes : List ℕ) → x ≡ e.Text bytes → (next - length bytes < 32768) × (take (length bytes) (drop (next - length bytes) image) ≡ bytes)
+Placed image x next = (bytes : List ℕ) → x ≡ e.Text bytes → EndAt image bytes next
 
 module _ (image : List ℕ) (T C N own : ℕ) (small : (T ≤ 512) × (C ≤ 512) × (N ≤ 512) × (own ≤ 512)) where
   -- The expression of a word whose parts fit.
@@ -108,7 +114,7 @@ module _ (image : List ℕ) (T C N own : ℕ) (small : (T ≤ 512) × (C ≤ 512
       two 2 lo hi (omega arith) (omega (arith, h .0, h .1)) ∙ ap₂ e.Range (byte-back lo (omega (arith, h .0, h .1))) (byte-back hi (h .1))
   kept-back e.Any h next p = one 3 0 (omega arith) (omega arith)
   kept-back (e.Text bytes) h next p =
-      of-word 4 (next - length bytes) (length bytes) (omega arith) (p bytes refl .0) (omega (arith, h .1)) ∙ ap e.Text (p bytes refl .1)
+      of-word 4 (next - length bytes) (length bytes) (omega arith) (omega (arith, p bytes refl .small)) (omega (arith, h .1)) ∙ ap e.Text (p bytes refl .is)
   kept-back (e.Sequence a b) h next p = two 5 a b (omega arith) (omega (arith, h .0, h .1, small .3))
   kept-back (e.Choice a b) h next p = two 6 a b (omega arith) (omega (arith, h .0, h .1, small .3))
   kept-back (e.Star a) h next p = one 7 a (omega arith) (omega (arith, h, small .3))
@@ -128,3 +134,16 @@ module _ (image : List ℕ) (T C N own : ℕ) (small : (T ≤ 512) × (C ≤ 512
       of-word 18 (switch c (bit truth)) a (omega arith) (switch-small c truth (omega (arith, h .0, small .1)))
       (omega (arith, h .1, small .3))
       ∙ ap₂ (λ c w. e.On c w a) (condition-back c truth) (truth-back c truth)
+
+  -- The bytes of a Text that is kept in a word lie in the image.
+  pub kept-inside : (x : e.Expr) → Fits T C N own x → (next : ℕ) → Placed image x next → InImage image (nodeOf (kept x next))
+  kept-inside x h next p place count q =
+      let bytes = take count (drop place image) in
+      let is : x ≡ e.Text bytes = sym (kept-back x h next p) ∙ ap (exprOf image) q in
+      let ends = p bytes is in
+      let few : length bytes < 4096 = omega (arith, subst (Fits T C N own) is h .1) in
+      let node : nodeOf (kept x next) ≡ Text (next - length bytes) (length bytes) =
+      ap (λ x. nodeOf (kept x next)) is ∙ word-is 4 (next - length bytes) (length bytes) (omega arith) (omega (arith, ends .small)) few in
+      let here : next - length bytes ≡ place = cc in
+      let many : length bytes ≡ count = cc in
+      omega (arith, ends .long, ends .inside)

@@ -8,19 +8,20 @@ use Rattle.image.specs.Reading.{Reading, got, fault, pick}
 
 -- ## How a number is written
 
--- The groups of a number, the lowest first, where no more than two are needed.
+-- The bytes that write a number of at most two groups, the lowest group first.
 abbrev pub twoGroups : ℕ → List ℕ
 twoGroups n = pick (ltb n 128) (n ∷ []) ((n % 128 + 128) ∷ n / 128 ∷ [])
 
--- The same for three, which hold every number below 2,097,152.
+-- The bytes that write a number of at most three, which hold every number below 2,097,152.
 abbrev pub groups : ℕ → List ℕ
 groups n = pick (ltb n 128) (n ∷ []) ((n % 128 + 128) ∷ twoGroups (n / 128))
 
 -- ## How it is read
 
 -- A number starts at `at`, in an image of `end` bytes. `low` is what its groups so far count, and the list is what comes
--- next. Where the image ends the number is cut (refusal 2, place the image's length). A zero group after the first, or a
--- third byte that still continues, is badly written (refusal 3, place the number's start).
+-- next. Where the image ends the number is cut (refusal 2, place the image's length). A byte 00 after
+-- the first, which is a last group of zero, and a third byte that still continues are badly written (refusal 3, place the
+-- number's start).
 module _ (end at : ℕ) where
   abbrev pub third : ℕ → List ℕ → Reading ℕ
   third low [] = fault 2 end

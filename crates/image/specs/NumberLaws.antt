@@ -13,11 +13,14 @@ use Rattle.image.specs.Reading.{Reading, got, fault, pick}
 use Rattle.image.specs.ReadingLaws.{All, holds, stops, pick-all}
 use Rattle.image.specs.Number.{twoGroups, groups, third, second, first, numberAt}
 
--- A refusal of an image that is not too long: one of 2 to 8, at a place of the image or at its end.
+-- A refusal before the end of an image that is not too long: one of 2 to 7. A cut is placed at the image's end, a wrong edition at 0, and every
+-- refusal but a cut at a byte of the image.
 pub record Refusal (end number place : ℕ) : Type 0 where
   pub least : 2 ≤ number
-  pub most : number ≤ 8
-  pub inside : place ≤ end
+  pub most : number ≤ 7
+  pub cut : number ≡ 2 → place ≡ end
+  pub edition : number ≡ 4 → place ≡ 0
+  pub inside : (number ≡ 2 → ⊥) → place < end
 
 -- The number n is written at the front of l, and `next` is the place after it.
 pub record Wrote (l : List ℕ) (at n next : ℕ) : Type 0 where
@@ -61,36 +64,46 @@ wrote {at =
 back-up : (b : ℕ) → 128 ≤ b → b - 128 + 128 ≡ b
 back-up b h = omega arith
 
-module _ (end at : ℕ) (start : at ≤ end) where
-  cut : {A : Type 0} {P : A → ℕ → Type 0} → All P (Refusal end) (fault 2 end)
-  cut = stops {n = 2} {place = end} (omega arith)
+-- A number is written in one byte or more.
+pub groups-some : (n : ℕ) → 1 ≤ length (groups n)
+groups-some n = some (ltb n 128) (ltb (n / 128) 128)
+  where
+    some : (s t : Bool) → 1 ≤ length (pick s (n ∷ []) ((n % 128 + 128) ∷ pick t (n / 128 ∷ []) ((n / 128 % 128 + 128) ∷ n / 128 / 128 ∷ [])))
+    some true t = omega arith
+    some false t = omega arith
 
-  badly : {A : Type 0} {P : A → ℕ → Type 0} → All P (Refusal end) (fault 3 at)
-  badly = stops {n = 3} {place = at} (omega arith)
+module _ (end at : ℕ) where
+  cut-here : {A : Type 0} {P : A → ℕ → Type 0} → All P (Refusal end) (fault 2 end)
+  cut-here = stops {n = 2} {place = end} (omega arith)
 
-  third-all :
-      (b c : ℕ) (l : List ℕ) → 128 ≤ b → b ≤ 255 → 128 ≤ c → c ≤ 255 → Bytes l
-      → All (Wrote (b ∷ c ∷ l) at) (Refusal end) (third end at (b - 128 + (c - 128) * 128) l)
-  third-all b c [] hb hb' hc hc' ok = cut
-  third-all b c (d ∷ t) hb hb' hc hc' ok =
-      pick-all (eqb d 0) (λ _. badly) (λ z. pick-all (ltb d 128) (λ e. holds (wrote (b ∷ c ∷ d ∷ []) t
-      (three-of (b - 128) (c - 128) d (omega arith) (omega arith) (pos (eqb-false d 0 z)) (ltb-true d 128 e)
-      ∙ rw (back-up b hb, back-up c hc)) refl refl (omega (arith, ltb-true d 128 e)))) (λ _. badly))
+  module _ (inn : at < end) where
+    badly : {A : Type 0} {P : A → ℕ → Type 0} → All P (Refusal end) (fault 3 at)
+    badly = stops {n = 3} {place = at} (omega arith)
 
-  second-all : (b : ℕ) (l : List ℕ) → 128 ≤ b → b ≤ 255 → Bytes l → All (Wrote (b ∷ l) at) (Refusal end) (second end at (b - 128) l)
-  second-all b [] hb hb' ok = cut
-  second-all b (c ∷ t) hb hb' ok = pick-all (eqb c 0) (λ _. badly) (λ z. pick-all (ltb c 128)
-      (λ e. holds (wrote (b ∷ c ∷ []) t
-      (two-of (b - 128) c (omega arith) (pos (eqb-false c 0 z)) (ltb-true c 128 e) ∙ rw (back-up b hb)) refl refl
-      (omega (arith, ltb-true c 128 e))))
-      (λ e. third-all b c t hb hb' (ltb-false c 128 e) (ok 0) (λ i. ok (suc i))))
+    third-all :
+        (b c : ℕ) (l : List ℕ) → 128 ≤ b → b ≤ 255 → 128 ≤ c → c ≤ 255 → Bytes l
+        → All (Wrote (b ∷ c ∷ l) at) (Refusal end) (third end at (b - 128 + (c - 128) * 128) l)
+    third-all b c [] hb hb' hc hc' ok = cut-here
+    third-all b c (d ∷ t) hb hb' hc hc' ok = pick-all (eqb d 0) (λ _. badly) (λ z. pick-all (ltb d 128)
+        (λ e. holds (wrote (b ∷ c ∷ d ∷ []) t
+        (three-of (b - 128) (c - 128) d (omega arith) (omega arith) (pos (eqb-false d 0 z)) (ltb-true d 128 e)
+        ∙ rw (back-up b hb, back-up c hc)) refl refl (omega (arith, ltb-true d 128 e))))
+        (λ _. badly))
 
-  -- What was read as a number is how that number is written; else the refusal is 2 or 3, at a place of the image.
-  pub first-all : (l : List ℕ) → Bytes l → All (Wrote l at) (Refusal end) (first end at l)
-  first-all [] ok = cut
-  first-all (b ∷ t) ok = pick-all (ltb b 128)
+    second-all : (b : ℕ) (l : List ℕ) → 128 ≤ b → b ≤ 255 → Bytes l → All (Wrote (b ∷ l) at) (Refusal end) (second end at (b - 128) l)
+    second-all b [] hb hb' ok = cut-here
+    second-all b (c ∷ t) hb hb' ok = pick-all (eqb c 0) (λ _. badly) (λ z. pick-all (ltb c 128)
+        (λ e. holds (wrote (b ∷ c ∷ []) t
+        (two-of (b - 128) c (omega arith) (pos (eqb-false c 0 z)) (ltb-true c 128 e) ∙ rw (back-up b hb)) refl refl
+        (omega (arith, ltb-true c 128 e))))
+        (λ e. third-all b c t hb hb' (ltb-false c 128 e) (ok 0) (λ i. ok (suc i))))
+
+  -- What was read as a number is how that number is written; else the refusal is 2, at the end, or 3, at the number.
+  pub first-all : (l : List ℕ) → at + length l ≡ end → Bytes l → All (Wrote l at) (Refusal end) (first end at l)
+  first-all [] long ok = cut-here
+  first-all (b ∷ t) long ok = pick-all (ltb b 128)
       (λ e. holds (wrote (b ∷ []) t (one-of b (ltb-true b 128 e)) refl refl (omega (arith, ltb-true b 128 e))))
-      (λ e. second-all b t (ltb-false b 128 e) (ok 0) (λ i. ok (suc i)))
+      (λ e. second-all (omega arith) b t (ltb-false b 128 e) (ok 0) (λ i. ok (suc i)))
 
 module _ (end at : ℕ) where
   read-two : (b c n : ℕ) (t : List ℕ) → 128 ≤ b → 0 < c → c < 128 → b - 128 + c * 128 ≡ n → first end at (b ∷ c ∷ t) ≡ got n (at + 2)

@@ -1,5 +1,5 @@
--- What was read is what would be written: every part of an image that is read as good is the writing of something sound, and
--- every refusal has its number and its place within 01's table.
+-- What was read is what would be written: every part of an image that is read as good is the writing of something sound; and every
+-- refusal is one of 2 to 7, placed as `Refusal` says.
 use Prim.Native.Nat.{ℕ, zero, suc, _+_, _≤_, _<_}
 use mathlib.Core.Path.{_≡_, refl, ap, sym, subst₂, _∙_}
 use mathlib.Core.List.{List, [], _∷_, _++_, append-assoc, append-nil}
@@ -14,9 +14,9 @@ use Rattle.grammar.specs.Sound.{Bytes, Fits, Sound}
 use Rattle.image.specs.Reading.{Reading, got, fault, pick, _then_}
 use Rattle.image.specs.ReadingLaws.{All, holds, stops, _▹_, _▹'_, pick-all}
 use Rattle.image.specs.Number.{groups, first, numberAt}
-use Rattle.image.specs.NumberLaws.{Refusal, Wrote, first-all}
+use Rattle.image.specs.NumberLaws.{Refusal, Wrote, groups-some, first-all}
 use Rattle.image.specs.Written.{written, numbers, bit, encodeNode, encode}
-use Rattle.image.specs.Image.{inside, times, Head, number, raw, kinds, nodeAt, headAt, bodyAt}
+use Rattle.image.specs.Image.{inside, times, Head, bounded, raw, kinds, nodeAt, headAt, bodyAt}
 use Rattle.image.specs.ImageLaws.{EachFrom, nil, _&_, each-at, zero-plus, numbers-snoc, inside-low, inside-high, bytes-take, bit-back}
 
 module _ (image : List ℕ) where
@@ -68,25 +68,29 @@ module _ (image : List ℕ) where
       holds (record { fits = r .fits & m .fits; count = ap suc (m .count); on = rw (append-assoc u (w x) (written w xs)) at (m .on) })
 
   module _ (bytes : Bytes image) where
+    -- The refusal of a number outside its range: 3 is never one, and 4 is placed at 0.
+    abbrev Reason : ℕ → ℕ → Type 0
+    Reason why at = (4 ≤ why) × (why ≤ 7) × (why ≡ 4 → at ≡ 0)
+
     number-all :
-        (why low stop : ℕ) → (2 ≤ why) × (why ≤ 8) → {u ns : List ℕ} {at : ℕ} → Upto u ns at
-        → All (Number low stop u ns) Stop (number image why low stop at)
-    number-all why low stop ok {u} {ns} {at} f =
-        first-all (length image) at (f .here .within) (drop at image) (λ i. rw (getD-drop at image i 0) (bytes (at + i)))
+        (why low stop : ℕ) {u ns : List ℕ} {at : ℕ} → Reason why at → Upto u ns at
+        → All (Number low stop u ns) Stop (bounded image why low stop at)
+    number-all why low stop {u} {ns} {at} reason f =
+        first-all (length image) at (drop at image) (rw (length-drop at image) (omega (arith, f .here .within)))
+        (λ i. rw (getD-drop at image i 0) (bytes (at + i)))
         ▹ λ n next w. pick-all (inside low stop n) (λ e. holds (record {
           least = inside-low low stop n e;
           under = inside-high low stop n e;
-          on =
-              record {
-                here = rw (numbers-snoc ns n, ← (append-assoc u (numbers ns) (groups n)), w .place)
-                    (front-on (groups n) (w .rest) (f .here) (w .split));
-              };
-        })) (λ _. stops outside)
+          on = record { here = rw (numbers-snoc ns n, ← (append-assoc u (numbers ns) (groups n)), w .place) (front-on (groups n) (w .rest) (f .here) (w .split)) };
+        }))
+        (λ _. stops (outside n (w .rest) (w .split)))
       where
-        outside : Stop why at
-        outside = record { least = ok .0; most = ok .1; inside = f .here .within }
+        outside : (n : ℕ) (t : List ℕ) → drop at image ≡ groups n ++ t → Stop why at
+        outside n t e =
+            let some : at < length image = omega (arith, groups-some n, simp (length-drop, length-append) at (ap length e)) in
+            record { least = omega (arith, reason .0); most = reason .1; cut = λ z. omega (arith, reason .0); edition = reason .2; inside = λ z. some }
 
-    operand : (low stop : ℕ) {u ns : List ℕ} {at : ℕ} → Upto u ns at → All (Number low stop u ns) Stop (number image 7 low stop at)
+    operand : (low stop : ℕ) {u ns : List ℕ} {at : ℕ} → Upto u ns at → All (Number low stop u ns) Stop (bounded image 7 low stop at)
     operand low stop f = number-all 7 low stop (omega arith) f
 
     start : {u : List ℕ} {at : ℕ} → Front u at → Upto u [] at
@@ -156,7 +160,7 @@ module _ (image : List ℕ) where
           number-all 6 0 19 (omega arith) (start f) ▹ λ tag at r. each-at Kind (fault 6) (kinds image T C N own) 0 tag kinds-all
           (r .under) u at (rw (zero-plus tag) (r .on))
 
-    pub pattern-all : (N i at : ℕ) (u : List ℕ) → Front u at → All (One (λ a. a < N) groups u) Stop (number image 7 0 N at)
+    pub pattern-all : (N i at : ℕ) (u : List ℕ) → Front u at → All (One (λ a. a < N) groups u) Stop (bounded image 7 0 N at)
     pattern-all N i at u f =
         operand 0 N (start f) ▹' λ n at r. record { fits = r .under; on = rw (append-nil (groups n)) at (r .on .here) }
 
@@ -171,7 +175,7 @@ module _ (image : List ℕ) where
 
     pub head-all : All HeadRead Stop (headAt image)
     head-all =
-        number-all 4 1 2 (omega arith) {ns = []} origin ▹ λ edition at e.
+        number-all 4 1 2 {ns = []} (omega arith) origin ▹ λ edition at e.
         number-all 5 0 9 (omega arith) (e .on) ▹ λ T at t.
         number-all 5 0 9 (omega arith) (t .on) ▹ λ C at c.
         number-all 5 1 513 (omega arith) (c .on) ▹ λ N at n.
@@ -198,7 +202,7 @@ module _ (image : List ℕ) where
 
     pub body-all : All Whole Stop (headAt image then bodyAt image)
     body-all = head-all ▹ λ h at r.
-        times-all (λ i a. a < h .nodes) groups (λ i. number image 7 0 (h .nodes)) (pattern-all (h .nodes)) 0 (h .tables) _ at (r .on)
+        times-all (λ i a. a < h .nodes) groups (λ i. bounded image 7 0 (h .nodes)) (pattern-all (h .nodes)) 0 (h .tables) _ at (r .on)
         ▹ λ ps at p.
         times-all (Fits (h .tables) (h .conditions) (h .nodes)) encodeNode (nodeAt image (h .tables) (h .conditions) (h .nodes))
         (λ i at u f. node-all (h .tables) (h .conditions) (h .nodes) i f) 0 (h .nodes) _ at (p .on) ▹ λ es at q.

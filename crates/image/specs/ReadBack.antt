@@ -14,7 +14,7 @@ use Rattle.image.specs.Reading.{Reading, got, _then_}
 use Rattle.image.specs.Number.{groups}
 use Rattle.image.specs.NumberLaws.{first-back}
 use Rattle.image.specs.Written.{written, numbers, encodeNode, heading, encode}
-use Rattle.image.specs.Image.{times, Head, number, raw, nodeAt, headAt, bodyAt}
+use Rattle.image.specs.Image.{times, Head, bounded, raw, nodeAt, headAt, bodyAt}
 use Rattle.image.specs.ImageLaws.{EachFrom, nil, _&_, each-of, zero-plus}
 
 module _ (image : List ℕ) where
@@ -42,7 +42,7 @@ module _ (image : List ℕ) where
 
   number-is :
       (why low stop : ℕ) → stop ≤ 2097152 → {n : ℕ} {ns t : List ℕ} {at : ℕ} → Todo (n ∷ ns) t at → low ≤ n → n < stop
-      → number image why low stop at ≡ got n (at + length (groups n))
+      → bounded image why low stop at ≡ got n (at + length (groups n))
   number-is why low stop small {n} {ns} {t} {at} f h h' =
       rw (split f, first-back (length image) at n (numbers ns ++ t) (omega arith)) (rw (le-leb low n h, lt-ltb n stop h'))
 
@@ -55,25 +55,25 @@ module _ (image : List ℕ) where
       )
 
   module _ (T C N own : ℕ) (small : (T ≤ 512) × (C ≤ 512) × (N ≤ 512) × (own ≤ 512)) where
-    tag : (n : ℕ) {ns t : List ℕ} {at : ℕ} → n < 19 → Todo (n ∷ ns) t at → number image 6 0 19 at ≡ got n (at + length (groups n))
+    tag : (n : ℕ) {ns t : List ℕ} {at : ℕ} → n < 19 → Todo (n ∷ ns) t at → bounded image 6 0 19 at ≡ got n (at + length (groups n))
     tag n h f = number-is 6 0 19 (omega arith) f (omega arith) h
 
     -- An operand below what it must be below.
     operand :
         (stop : ℕ) → stop ≤ 512 → {n : ℕ} {ns t : List ℕ} {at : ℕ} → Todo (n ∷ ns) t at → n < stop
-        → number image 7 0 stop at ≡ got n (at + length (groups n))
+        → bounded image 7 0 stop at ≡ got n (at + length (groups n))
     operand stop low f h = number-is 7 0 stop (omega arith) f (omega arith) h
 
-    child : {n : ℕ} {ns t : List ℕ} {at : ℕ} → Todo (n ∷ ns) t at → n < own → number image 7 0 own at ≡ got n (at + length (groups n))
+    child : {n : ℕ} {ns t : List ℕ} {at : ℕ} → Todo (n ∷ ns) t at → n < own → bounded image 7 0 own at ≡ got n (at + length (groups n))
     child f h = operand own (small .3) f h
 
-    table : {n : ℕ} {ns t : List ℕ} {at : ℕ} → Todo (n ∷ ns) t at → n < T → number image 7 0 T at ≡ got n (at + length (groups n))
+    table : {n : ℕ} {ns t : List ℕ} {at : ℕ} → Todo (n ∷ ns) t at → n < T → bounded image 7 0 T at ≡ got n (at + length (groups n))
     table f h = operand T (small .0) f h
 
-    condition : {n : ℕ} {ns t : List ℕ} {at : ℕ} → Todo (n ∷ ns) t at → n < C → number image 7 0 C at ≡ got n (at + length (groups n))
+    condition : {n : ℕ} {ns t : List ℕ} {at : ℕ} → Todo (n ∷ ns) t at → n < C → bounded image 7 0 C at ≡ got n (at + length (groups n))
     condition f h = operand C (small .1) f h
 
-    truth : {n : ℕ} {ns t : List ℕ} {at : ℕ} → Todo (n ∷ ns) t at → n < 2 → number image 7 0 2 at ≡ got n (at + length (groups n))
+    truth : {n : ℕ} {ns t : List ℕ} {at : ℕ} → Todo (n ∷ ns) t at → n < 2 → bounded image 7 0 2 at ≡ got n (at + length (groups n))
     truth f h = operand 2 (omega arith) f h
 
     text-back :
@@ -160,10 +160,10 @@ module _ (image : List ℕ) where
       rw (b .is, c .is) (back (c .after))
 
   pattern-back :
-      (N : ℕ) → N ≤ 512 → (at n : ℕ) (t : List ℕ) → n < N → drop at image ≡ groups n ++ t → Back (number image 7 0 N at) n (Todo [] t)
+      (N : ℕ) → N ≤ 512 → (at n : ℕ) (t : List ℕ) → n < N → drop at image ≡ groups n ++ t → Back (bounded image 7 0 N at) n (Todo [] t)
   pattern-back N small at n t h e = go (record { left = rw (append-nil (groups n)) e })
     where
-      go : Todo (n ∷ []) t at → Back (number image 7 0 N at) n (Todo [] t)
+      go : Todo (n ∷ []) t at → Back (bounded image 7 0 N at) n (Todo [] t)
       go f = rw (number-is 7 0 N (omega arith) f (omega arith) h) (back (on f))
 
   -- An image that is the writing of a sound grammar is read as that grammar, and nothing is left over.
@@ -181,7 +181,7 @@ module _ (image : List ℕ) where
         Todo (heading g) (numbers (g .patterns) ++ (written encodeNode (g .nodes) ++ [])) 0
         → Back (headAt image then bodyAt image) g Ended
     from-start f =
-        let p = times-back (λ i a. a < size g) groups (λ i. number image 7 0 (size g)) (tables g)
+        let p = times-back (λ i a. a < size g) groups (λ i. bounded image 7 0 (size g)) (tables g)
         (λ i at x t lt fit e. pattern-back (size g) (s .few-nodes) at x t fit e)
         0 (g .patterns) (written encodeNode (g .nodes) ++ []) (omega arith) patterns-each (on (on (on (on (on f))))) in
         let q = times-back (Fits (tables g) (g .conditions) (size g)) encodeNode (nodeAt image (tables g) (g .conditions) (size g))

@@ -13,6 +13,7 @@ abbrev pub _then_ : {A B : Type 0} → Reading A → (A → ℕ → Reading B) �
 _then_ (got value next) more = more value next
 _then_ (fault number place) more = fault number place
 
+-- The first if true, else the second.
 abbrev pub pick : {A : Type 0} → Bool → A → A → A
 pick true x y = x
 pick false x y = y

@@ -1,6 +1,6 @@
 -- Two outcomes that a promise permits are equal.
 use Prim.Native.Nat.{ℕ}
-use mathlib.Core.Path.{_≡_, refl, ap, sym, _∙_}
+use mathlib.Core.Path.{_≡_, sym, _∙_}
 use mathlib.Core.List.{List}
 use native.Mathlib.Omega.{arith}
 use Rattle.image.specs.declared.number.Read.{Read}
@@ -10,12 +10,15 @@ use Rattle.image.specs.declared.walk.Header.{Header}
 use Rattle.image.specs.declared.walk.Header.the-variants.{Found, Refused as NoHead}
 use Rattle.image.specs.declared.walk.Loaded.{Loaded}
 use Rattle.image.specs.declared.walk.Verdict.{Verdict}
-use Rattle.image.specs.Reading.{Reading, got, fault}
+use Rattle.image.specs.Reading.{Reading}
 use Rattle.image.specs.Image.{Head, readImage}
+use Rattle.image.specs.declared.node.Node.{Node}
+use Rattle.image.specs.Word.{packed}
+use Rattle.image.specs.Node.{nodeOf}
 use Rattle.image.specs.Filled.{Fills, Loads}
-use Rattle.image.specs.Meant.{reading, heading, verdict}
+use Rattle.image.specs.Meant.{reading, header, verdict}
 
--- `number_at`, `bounded`, `word_at` and every function that reads operands: each promises `reading r ≡ x`.
+-- `number_at` and the groups below it, `bounded`, `word_at` and every function that reads operands: each promises `reading r ≡ x`.
 pub one-reading : (r s : Read) {x : Reading ℕ} → reading r ≡ x → reading s ≡ x → r ≡ s
 one-reading r s e f = same r s (e ∙ sym f)
   where
@@ -28,14 +31,14 @@ one-reading r s e f = same r s (e ∙ sym f)
         let number : f .number ≡ g .number = cc in let place : f .place ≡ g .place = cc in
         λ i. Refused (record { number = number i; place = place i })
 
--- `head_of`: it promises `heading r ≡ x`.
-pub one-heading : (r s : Header) {x : Reading Head} → heading r ≡ x → heading s ≡ x → r ≡ s
-one-heading r s e f = same r s (e ∙ sym f)
+-- `head_of`: it promises `header r ≡ x`.
+pub one-header : (r s : Header) {x : Reading Head} → header r ≡ x → header s ≡ x → r ≡ s
+one-header r s e f = same r s (e ∙ sym f)
   where
     said : code.Head → Head
     said h = record { tables = h .tables; conditions = h .conditions; nodes = h .nodes; start = h .start }
 
-    same : (r s : Header) → heading r ≡ heading s → r ≡ s
+    same : (r s : Header) → header r ≡ header s → r ≡ s
     same (Found h) (Found k) e =
         let head : said h ≡ said k = cc in let next : h .next ≡ k .next = cc in
         λ i. Found (record {
@@ -64,6 +67,14 @@ pub one-loading :
     → (r ≡ r') × (after ≡ after')
 one-loading f g = (f .answer ∙ sym (g .answer), f .array ∙ sym (g .array))
 
--- `check`, and likewise `node_of` and `word`: each promises `r ≡ x`.
-pub one-verdict : {A : Type 0} {r r' x : A} → r ≡ x → r' ≡ x → r ≡ r'
-one-verdict e f = e ∙ sym f
+-- `check`
+pub one-verdict : (image : List ℕ) (r r' : Verdict) → r ≡ verdict (readImage image) → r' ≡ verdict (readImage image) → r ≡ r'
+one-verdict image r r' e f = e ∙ sym f
+
+-- `node_of`
+pub one-node : (word : ℕ) (r r' : Node) → r ≡ nodeOf word → r' ≡ nodeOf word → r ≡ r'
+one-node word r r' e f = e ∙ sym f
+
+-- `word`
+pub one-word : (tag a b r r' : ℕ) → r ≡ packed tag a b → r' ≡ packed tag a b → r ≡ r'
+one-word tag a b r r' e f = e ∙ sym f

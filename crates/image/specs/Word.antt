@@ -1,9 +1,10 @@
--- A node kept in one number of 32 bits, so that the evaluator visits nodes by their numbers and never reads the image again.
+-- A node kept in one number of 32 bits, so that the evaluator visits nodes by their numbers and reads the image again only for the
+-- bytes of a Text.
 use Prim.Native.Nat.{ℕ, _+_, _-_, _*_}
 use mathlib.Core.List.{List}
 use lib.ListN.{length}
 use Rattle.grammar.specs.Expr.{Expr, Empty, Byte, Range, Any, Text, Sequence, Choice, Star, Not, Call, Def, Match, Is, Isa, Exists, Block, Local, If, On}
-use Rattle.image.specs.Reading.{Reading, got, fault, _then_}
+use Rattle.image.specs.Reading.{Reading, got, _then_}
 use Rattle.image.specs.Written.{bit}
 use Rattle.image.specs.Image.{nodeAt}
 

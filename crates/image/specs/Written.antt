@@ -41,7 +41,7 @@ encodeNode (Local t a) = numbers (16 ∷ t ∷ a ∷ [])
 encodeNode (If c truth) = numbers (17 ∷ c ∷ bit truth ∷ [])
 encodeNode (On c truth a) = numbers (18 ∷ c ∷ bit truth ∷ a ∷ [])
 
--- "In order: edition (1); tables T; conditions C; nodes N; start node; for each table the node of its pattern; then N nodes."
+-- In order: edition, tables, conditions, nodes, start node; for each table the node of its pattern; then the nodes.
 abbrev pub heading : Grammar → List ℕ
 heading g = 1 ∷ tables g ∷ g .conditions ∷ size g ∷ g .start ∷ []
 

@@ -59,7 +59,7 @@ pub fn node_of(word: u32) -> Node
 }
 
 // A tag and two operands in one word.
-pub fn word(tag: u32, a: u32, b: u32) -> u32
+pub(crate) fn word(tag: u32, a: u32, b: u32) -> u32
     requires { ⌜ (tag < 32) × (a < 32768) × (b < 4096) ⌝ }
     ensures { λ r. ⌜ r ≡ packed tag a b ⌝ }
 {

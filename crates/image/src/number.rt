@@ -3,7 +3,7 @@ ghost use mathlib.Core.Path.{_≡_};
 ghost use Prim.Native.Nat.{_+_, _<_, _≤_};
 ghost use lib.ListN.{drop, length};
 ghost use Rattle.image.specs.Number.{numberAt, second, third};
-ghost use Rattle.image.specs.Image.{number};
+ghost use Rattle.image.specs.Image.{bounded};
 ghost use Rattle.image.specs.Meant.{reading};
 
 // A number and the place after it.
@@ -106,7 +106,7 @@ fn third_group(image: &[u8], at: usize, low: u32) -> Read
 
 // The number at a place if it is at least `low` and below `stop`; else the refusal `why`, at that place.
 pub fn bounded(image: &[u8], at: usize, low: u32, stop: u32, why: u32) -> Read
-    ensures { λ r. ⌜ reading r ≡ number (now (image .entry)) why low stop at ⌝ }
+    ensures { λ r. ⌜ reading r ≡ bounded (now (image .entry)) why low stop at ⌝ }
 {
     let r = number_at(image, at);
     let Read::Got(n) = r else {

@@ -2,10 +2,10 @@
 ghost use mathlib.Core.Path.{_≡_};
 ghost use Prim.Native.Nat.{_≤_};
 ghost use lib.ListN.{length};
-ghost use Rattle.image.specs.Image.{number, headAt, readImage};
+ghost use Rattle.image.specs.Image.{bounded, headAt, readImage};
 ghost use Rattle.image.specs.Word.{wordAt};
 ghost use Rattle.image.specs.Filled.{Fills, Loads};
-ghost use Rattle.image.specs.Meant.{heading, verdict};
+ghost use Rattle.image.specs.Meant.{header, verdict};
 use crate::number::Number;
 use crate::number::Read;
 use crate::number::Refusal;
@@ -26,7 +26,7 @@ pub enum Header {
     Refused(Refusal),
 }
 
-// What an image was found to be: good, with its counts and its start node, or refused.
+// What an image was found to be: good, with T, C, N and its start node, or refused.
 pub enum Loaded {
     Good(u32, u32, u32, u32),
     Refused(Refusal),
@@ -34,7 +34,7 @@ pub enum Loaded {
 
 // Edition, tables, conditions, nodes, start.
 fn head_of(image: &[u8]) -> Header
-    ensures { λ r. ⌜ heading r ≡ headAt (now (image .entry)) ⌝ }
+    ensures { λ r. ⌜ header r ≡ headAt (now (image .entry)) ⌝ }
 {
     let r = bounded(image, 0, 1, 2, 4);
     let edition = match r {
@@ -73,7 +73,7 @@ fn head_of(image: &[u8]) -> Header
 // For each table the node of its pattern, put down from 512 on. Got: how many, and the place after them.
 fn fill_patterns(image: &[u8], code: &mut [u32; 520], start: usize, tables: u32, nodes: u32) -> Read
     requires { ⌜ tables ≤ 8 ⌝ }
-    ensures { λ r. ⌜ Fills (λ t. number (now (image .entry)) 7 0 nodes) 512 tables start (now (code .entry)) (now (code .exit)) r ⌝ }
+    ensures { λ r. ⌜ Fills (λ t. bounded (now (image .entry)) 7 0 nodes) 512 tables start (now (code .entry)) (now (code .exit)) r ⌝ }
 {
     let mut t: u32 = 0;
     let mut at = start;
@@ -121,7 +121,7 @@ fn fill_nodes(
     })
 }
 
-// Checks an image and puts down its nodes and patterns: a node's word at its number, a table's pattern at 512 and its number.
+// Checks an image and puts down its nodes and patterns: a node's word at its number, a table's pattern at 512 plus its number.
 pub fn load(image: &[u8], code: &mut [u32; 520]) -> Loaded
     requires { ⌜ length (now code) ≡ 520 ⌝ }
     ensures { λ r. ⌜ Loads (now (image .entry)) (now (code .entry)) (now (code .exit)) r ⌝ }

@@ -5,19 +5,19 @@ use borrow.Author.Needs.{needs}
 use native.Mathlib.Omega.{arith}
 use Rattle.image.proofs.FillLaws.{put-down, refused-at, all-down}
 use Rattle.image.specs.FilledLaws.{Filling, filling-starts}
-use Rattle.image.specs.Image.{number}
+use Rattle.image.specs.Image.{bounded}
 use Rattle.image.proofs.walk.fill_patterns.Statement.{statement}
 use Rattle.image.proofs.walk.fill_patterns.Tie as tie
 
 abbrev Inv-loop : tie.InvT-loop
-Inv-loop image code₀ start tables nodes t₀ at₀ code t at = Filling (λ t. number image 7 0 nodes) 512 tables start code₀ code t at
+Inv-loop image code₀ start tables nodes t₀ at₀ code t at = Filling (λ t. bounded image 7 0 nodes) 512 tables start code₀ code t at
 
 abbrev μ-loop : tie.MeasureT-loop
 μ-loop image code₀ start tables nodes t₀ at₀ code t at = tables - t
 
 loop-holds : tie.Need-loop-holds Inv-loop μ-loop
 loop-holds c =
-    let a = c .before .args in filling-starts (λ t. number (a .image .now) 7 0 (a .nodes)) 512 (a .tables) (a .start) (a .code .now)
+    let a = c .before .args in filling-starts (λ t. bounded (a .image .now) 7 0 (a .nodes)) 512 (a .tables) (a .start) (a .code .now)
 
 bounded-requires : tie.Need-bounded-requires Inv-loop μ-loop
 bounded-requires c κs = omega arith
@@ -35,7 +35,7 @@ returns c =
     let s3 = s2 .before .before in
     let s4 = s3 .before .before in
     let a = s4 .args in
-    refused-at (λ t. number (a .image .now) 7 0 (a .nodes)) 512 (a .tables) (s3 .loop .inv) (omega arith) (s2 .bounded .result)
+    refused-at (λ t. bounded (a .image .now) 7 0 (a .nodes)) 512 (a .tables) (s3 .loop .inv) (omega arith) (s2 .bounded .result)
     (s1 .match .keys2) (s2 .bounded .ensures)
 
 add-code : tie.Need-add-code Inv-loop μ-loop
@@ -63,7 +63,7 @@ loop-again c =
     let s3 = s2 .before .before in
     let s4 = s3 .before .before in
     let a = s4 .args in
-    put-down (λ t. number (a .image .now) 7 0 (a .nodes)) 512 (a .tables) (s3 .loop .inv) (512 + s3 .loop .t) (omega arith) (omega arith)
+    put-down (λ t. bounded (a .image .now) 7 0 (a .nodes)) 512 (a .tables) (s3 .loop .inv) (512 + s3 .loop .t) (omega arith) (omega arith)
     (s2 .bounded .ensures) (s1 .r .given .1)
 
 returns-2 : tie.Need-returns-2 Inv-loop μ-loop
@@ -71,7 +71,7 @@ returns-2 c =
     let s1 = c .before in
     let s2 = s1 .before .before in
     let a = s2 .args in
-    all-down (λ t. number (a .image .now) 7 0 (a .nodes)) 512 (a .tables) (s1 .loop .inv) (omega arith)
+    all-down (λ t. bounded (a .image .now) 7 0 (a .nodes)) 512 (a .tables) (s1 .loop .inv) (omega arith)
 
 pub fill-patterns-spec : {M : Type 1} → statement M
 fill-patterns-spec =

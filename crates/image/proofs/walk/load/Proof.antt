@@ -6,7 +6,7 @@ use Rattle.image.proofs.HeadLaws.{found, few}
 use Rattle.image.proofs.WalkLaws.{promised, putting, too-long, no-head, no-patterns, no-nodes, left-over, all-good}
 use Rattle.image.specs.Image.{headAt}
 use Rattle.image.specs.Filled.{filling}
-use Rattle.image.specs.Meant.{reading, heading}
+use Rattle.image.specs.Meant.{reading, header}
 use Rattle.image.specs.Word.{wordAt}
 use borrow.Author.Needs.{needs}
 use Rattle.image.proofs.walk.load.Statement.{statement}
@@ -21,7 +21,7 @@ head-is :
     (c : tie.After-r) → (let h = c .r .given .0 .0 in
     found (h .tables) (h .conditions) (h .nodes) (h .start) (h .next)
     ≡ headAt (c .before .before .before .before .before .args .image .now))
-head-is c = sym (ap heading (c .r .given .1)) ∙ c .before .before .head-of .ensures
+head-is c = sym (ap header (c .r .given .1)) ∙ c .before .before .head-of .ensures
 
 returns : tie.Need-returns
 returns c =
@@ -45,7 +45,7 @@ returns-2 c =
     let s4 = s3 .before in
     let a = s4 .args in
     promised (bytes s3) (s4 .pre)
-    (no-head (a .image .now) (a .code .now) (omega arith) (sym (ap heading (s1 .r2 .given .1)) ∙ s2 .head-of .ensures))
+    (no-head (a .image .now) (a .code .now) (omega arith) (sym (ap header (s1 .r2 .given .1)) ∙ s2 .head-of .ensures))
 
 fill-patterns-requires : tie.Need-fill-patterns-requires
 fill-patterns-requires c κs =
