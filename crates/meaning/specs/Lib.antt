@@ -1,0 +1,25 @@
+-- The meaning of a grammar: what a reader must believe, and the theorems that show the three demands.
+pub mod State
+pub mod Outcome
+pub mod Cost
+pub mod Rules
+pub mod Kept
+pub mod Steps
+pub mod Limits
+pub mod Cut
+pub mod Run
+pub mod Recognise
+pub mod RunLaws
+pub mod Complete
+pub mod Sound
+pub mod Exact
+pub mod Unique
+pub mod Counted
+pub mod Remain
+pub mod Forward
+pub mod Scopes
+pub mod Pilot
+pub mod SlotLaws
+pub mod Room
+pub mod Demands
+pub mod Cases

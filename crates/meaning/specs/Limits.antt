@@ -1,0 +1,9 @@
+-- Limits. 01, "Steps, depth, room": "Limits: steps B 1 to 1,000,000; depth D 1 to 256; room R 0 to 256."
+use Prim.Native.Nat.{ℕ, _≤_}
+use Rattle.meaning.specs.Cost.{Cost}
+
+-- A cost is within a depth, a number of steps and a number of symbols.
+pub record Within (c : Cost) (d b r : ℕ) : Type 0 where
+  pub fits-steps : c .steps ≤ b
+  pub fits-depth : c .depth ≤ d
+  pub fits-room : c .room ≤ r

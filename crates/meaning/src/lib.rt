@@ -1,0 +1,1 @@
+// Definitions and theorems only, in specs/: the rules, derivations, limits, answers, and the three demands.
