@@ -199,7 +199,9 @@ module _ (image : List ℕ) (bytes : Bytes image) (short : length image ≤ 1638
         word-inside i at u (omega arith) f ▹ λ w next s. words-inside (suc i) k next (s .before) (omega arith) (s .on) ▹ λ ws end rest.
         holds (each w ws (s .inside) rest)
       where
-        each : (w : ℕ) (ws : List ℕ) → InImage image (nodeOf w) → ((n : ℕ) → n < length ws → InImage image (nodeOf (getD ws n 0))) → Inside (w ∷ ws) 0
+        each :
+            (w : ℕ) (ws : List ℕ) → InImage image (nodeOf w) → ((n : ℕ) → n < length ws → InImage image (nodeOf (getD ws n 0)))
+            → Inside (w ∷ ws) 0
         each w ws first rest zero l = first
         each w ws first rest (suc n) l = rest n (omega arith)
 
@@ -233,7 +235,8 @@ module _ (image : List ℕ) (bytes : Bytes image) (before : List ℕ) (room : le
     -- The words that were read.
     read : Through (times words 0 (h .nodes) next) (λ ws next. got (map (visited image) ws) next) xs end
     read = through (times words 0 (h .nodes) next) (λ ws next. got (map (visited image) ws) next)
-        (words-read image bytes short (h .tables) (h .conditions) (h .nodes) few 0 (h .nodes) next (take next image) (omega arith) here ∙ ex)
+        (words-read image bytes short (h .tables) (h .conditions) (h .nodes) few 0 (h .nodes) next (take next image) (omega arith) here
+        ∙ ex)
 
     count : length xs ≡ h .nodes
     count = of-got (rw ex at (times-count (nodeAt image (h .tables) (h .conditions) (h .nodes)) 0 (h .nodes) next))
@@ -242,7 +245,8 @@ module _ (image : List ℕ) (bytes : Bytes image) (before : List ℕ) (room : le
     word-at : (n : ℕ) → n < length xs → getD (filled image before) n 0 ≡ getD (read .value) n 0
     word-at n l =
         let own : 0 + (0 + n) ≡ n = omega arith in
-        let long : length (withPatterns image h at before) ≡ 520 = filling-length (λ t. bounded image 7 0 (h .nodes)) 512 0 (h .tables) at before ∙ room in
+        let long : length (withPatterns image h at before)
+        ≡ 520 = filling-length (λ t. bounded image 7 0 (h .nodes)) 512 0 (h .tables) at before ∙ room in
         ap (λ l. getD l n 0) array-is
         ∙ rw own at (filling-at words 0 0 (h .nodes) next n (withPatterns image h at before) (read .value) (read .next) (read .first)
         (omega (arith, count)) (omega (arith, few .2)))
@@ -257,7 +261,9 @@ module _ (image : List ℕ) (bytes : Bytes image) (before : List ℕ) (room : le
 
     pub texts-at : (n : ℕ) → n < length xs → InImage image (nodeOf (getD (filled image before) n 0))
     texts-at n l =
-        let all = of-got (rw (read .first) at (words-inside image bytes short (h .tables) (h .conditions) (h .nodes) few 0 (h .nodes) next (take next image) (omega arith) here)) in
+        let all = of-got (rw (read .first) at
+        (words-inside image bytes short (h .tables) (h .conditions) (h .nodes) few 0 (h .nodes) next (take next image)
+        (omega arith) here)) in
         let many : length (read .value) ≡ h .nodes = of-got (rw (read .first) at (times-count words 0 (h .nodes) next)) in
         rw (word-at n l) (all n (omega (arith, count)))
 

@@ -114,7 +114,8 @@ module _ (image : List ℕ) (T C N own : ℕ) (small : (T ≤ 512) × (C ≤ 512
       two 2 lo hi (omega arith) (omega (arith, h .0, h .1)) ∙ ap₂ e.Range (byte-back lo (omega (arith, h .0, h .1))) (byte-back hi (h .1))
   kept-back e.Any h next p = one 3 0 (omega arith) (omega arith)
   kept-back (e.Text bytes) h next p =
-      of-word 4 (next - length bytes) (length bytes) (omega arith) (omega (arith, p bytes refl .small)) (omega (arith, h .1)) ∙ ap e.Text (p bytes refl .is)
+      of-word 4 (next - length bytes) (length bytes) (omega arith) (omega (arith, p bytes refl .small)) (omega (arith, h .1))
+      ∙ ap e.Text (p bytes refl .is)
   kept-back (e.Sequence a b) h next p = two 5 a b (omega arith) (omega (arith, h .0, h .1, small .3))
   kept-back (e.Choice a b) h next p = two 6 a b (omega arith) (omega (arith, h .0, h .1, small .3))
   kept-back (e.Star a) h next p = one 7 a (omega arith) (omega (arith, h, small .3))

@@ -68,7 +68,8 @@ back-up b h = omega arith
 pub groups-some : (n : ℕ) → 1 ≤ length (groups n)
 groups-some n = some (ltb n 128) (ltb (n / 128) 128)
   where
-    some : (s t : Bool) → 1 ≤ length (pick s (n ∷ []) ((n % 128 + 128) ∷ pick t (n / 128 ∷ []) ((n / 128 % 128 + 128) ∷ n / 128 / 128 ∷ [])))
+    some :
+        (s t : Bool) → 1 ≤ length (pick s (n ∷ []) ((n % 128 + 128) ∷ pick t (n / 128 ∷ []) ((n / 128 % 128 + 128) ∷ n / 128 / 128 ∷ [])))
     some true t = omega arith
     some false t = omega arith
 

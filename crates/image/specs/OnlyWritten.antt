@@ -81,14 +81,24 @@ module _ (image : List ℕ) where
         ▹ λ n next w. pick-all (inside low stop n) (λ e. holds (record {
           least = inside-low low stop n e;
           under = inside-high low stop n e;
-          on = record { here = rw (numbers-snoc ns n, ← (append-assoc u (numbers ns) (groups n)), w .place) (front-on (groups n) (w .rest) (f .here) (w .split)) };
+          on =
+              record {
+                here = rw (numbers-snoc ns n, ← (append-assoc u (numbers ns) (groups n)), w .place)
+                    (front-on (groups n) (w .rest) (f .here) (w .split));
+              };
         }))
         (λ _. stops (outside n (w .rest) (w .split)))
       where
         outside : (n : ℕ) (t : List ℕ) → drop at image ≡ groups n ++ t → Stop why at
         outside n t e =
             let some : at < length image = omega (arith, groups-some n, simp (length-drop, length-append) at (ap length e)) in
-            record { least = omega (arith, reason .0); most = reason .1; cut = λ z. omega (arith, reason .0); edition = reason .2; inside = λ z. some }
+            record {
+              least = omega (arith, reason .0);
+              most = reason .1;
+              cut = λ z. omega (arith, reason .0);
+              edition = reason .2;
+              inside = λ z. some;
+            }
 
     operand : (low stop : ℕ) {u ns : List ℕ} {at : ℕ} → Upto u ns at → All (Number low stop u ns) Stop (bounded image 7 low stop at)
     operand low stop f = number-all 7 low stop (omega arith) f
@@ -137,7 +147,8 @@ module _ (image : List ℕ) where
           done (Range lo hi) (s .least, up-to 255 (s .under)) (s .on .here))
           & (λ u at f. done Any tt (f .here))
           & (λ u at f. operand 1 65 f ▹ λ k at r. raw-all k (r .on .here) ▹ λ x at s. text k x at r s)
-          & (λ u at f. operand 0 own f ▹ λ a at r. operand 0 own (r .on) ▹ λ b at s. done (Sequence a b) (r .under, s .under) (s .on .here))
+          & (λ u at f. operand 0 own f ▹ λ a at r. operand 0 own (r .on) ▹ λ b at s. done (Sequence a b) (r .under, s .under)
+          (s .on .here))
           & (λ u at f. operand 0 own f ▹ λ a at r. operand 0 own (r .on) ▹ λ b at s. done (Choice a b) (r .under, s .under) (s .on .here))
           & (λ u at f. operand 0 own f ▹ λ a at r. done (Star a) (r .under) (r .on .here))
           & (λ u at f. operand 0 own f ▹ λ a at r. done (Not a) (r .under) (r .on .here))

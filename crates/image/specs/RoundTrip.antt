@@ -146,5 +146,6 @@ pub number-written :
     (b : List ℕ) (at n next : ℕ) → Bytes b → at ≤ length b → numberAt b at ≡ got n next
     → (take next b ≡ take at b ++ groups n) × (n < 2097152)
 number-written b at n next bytes l e =
-    let w = of-got (rw e at (first-all (length b) at (drop at b) (rw (length-drop at b) (omega (arith, l))) (λ i. rw (getD-drop at b i 0) (bytes (at + i))))) in
+    let w = of-got (rw e at
+    (first-all (length b) at (drop at b) (rw (length-drop at b) (omega (arith, l))) (λ i. rw (getD-drop at b i 0) (bytes (at + i))))) in
     (rw (w .place) (front-on b (groups n) (w .rest) (record { front = refl; within = l }) (w .split) .front), w .small)

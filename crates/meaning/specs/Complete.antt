@@ -40,7 +40,8 @@ module _ (g : Grammar) (x : List ℕ) (r : ℕ) where
 
   one-round : {c : Cost} {d b : ℕ} → Within (enter c) d b r → (v : Env) (a p : ℕ) (σ : State)
       → run g x r d b v (Star a) p σ
-      ≡ next (charge (run g x r (pred d) (pred b) v (node g a) p σ)) (round p σ (λ q τ c. after c (run g x r d (b - c .steps) v (Star a) q τ)))
+      ≡ next (charge (run g x r (pred d) (pred b) v (node g a) p σ))
+      (round p σ (λ q τ c. after c (run g x r d (b - c .steps) v (Star a) q τ)))
   one-round {d = d} {b = b} w = star-round g x r d b (omega arith) (omega arith)
 
   pub complete : {v : Env} {e : Expr} {p : ℕ} {σ : State} {o : Outcome} {c : Cost} → Derives g x v e p σ o c
@@ -77,13 +78,16 @@ module _ (g : Grammar) (x : List ℕ) (r : ℕ) where
 
   round-in : (d b : ℕ) (v : Env) (a p : ℕ) (σ : State)
       → run g x r (suc d) (suc b) v (Star a) p σ
-      ≡ next (charge (run g x r d b v (node g a) p σ)) (round p σ (λ q τ c. after c (run g x r (suc d) (suc b - c .steps) v (Star a) q τ)))
+      ≡ next (charge (run g x r d b v (node g a) p σ))
+      (round p σ (λ q τ c. after c (run g x r (suc d) (suc b - c .steps) v (Star a) q τ)))
   round-in d b = star-round g x r (suc d) (suc b) (omega arith) (omega arith)
 
   less : (b n : ℕ) → suc b - suc n ≡ b - n
   less b n = omega arith
 
-  pub cut-complete : {d b : ℕ} {v : Env} {e : Expr} {p : ℕ} {σ : State} {n s : ℕ} {c : Cost} → Cut g x r d b v e p σ n s c → run g x r d b v e p σ ≡ refused n s c
+  pub cut-complete :
+      {d b : ℕ} {v : Env} {e : Expr} {p : ℕ} {σ : State} {n s : ℕ} {c : Cost} → Cut g x r d b v e p σ n s c
+      → run g x r d b v e p σ ≡ refused n s c
   cut-complete (no-steps {d = d}) = without-steps g x r d _ _ _ _
   cut-complete (no-depth {b = b}) = without-depth g x r b _ _ _ _
   cut-complete (no-room {d = d} {b = b} {σ = σ} D w h) = rw (step-in d b, complete D d b w, le-ltb (length σ) r h)
@@ -93,7 +97,8 @@ module _ (g : Grammar) (x : List ℕ) (r : ℕ) where
   cut-complete (cut-alternative {d = d} {b = b} K) = rw (step-in d b, cut-complete K)
   cut-complete (cut-other {d = d} {b = b} D w K) = rw (step-in d b, complete D d b w, cut-complete K)
   cut-complete (cut-round {d = d} {b = b} K) = rw (round-in d b, cut-complete K)
-  cut-complete (cut-later {d = d} {b = b} {p = p} {q = q} {c = c} D w h K) = rw (round-in d b, complete D d b w, lt-ltb p q h, less b (c .steps), cut-complete K)
+  cut-complete (cut-later {d =
+      d} {b = b} {p = p} {q = q} {c = c} D w h K) = rw (round-in d b, complete D d b w, lt-ltb p q h, less b (c .steps), cut-complete K)
   cut-complete (cut-not {d = d} {b = b} K) = rw (step-in d b, cut-complete K)
   cut-complete (cut-call {d = d} {b = b} K) = rw (step-in d b, cut-complete K)
   cut-complete (cut-def {d = d} {b = b} K) = rw (step-in d b, cut-complete K)

@@ -1,4 +1,5 @@
--- `counted`: the steps of a derivation's cost are its own steps, counted by a function that knows nothing of costs.
+-- `counted`: the steps of a derivation's cost are its own steps, counted by a function that knows nothing of costs. `spent-counted`: the
+-- same of a run that is cut short.
 use Prim.Native.Nat.{ℕ, suc}
 use mathlib.Core.Path.{_≡_, refl, ap}
 use mathlib.Core.List.{List}
@@ -9,7 +10,8 @@ use Rattle.meaning.specs.State.{State, Env}
 use Rattle.meaning.specs.Outcome.{Outcome}
 use Rattle.meaning.specs.Cost.{Cost}
 use Rattle.meaning.specs.Rules.{Derives, empty, byte, range, any, text, seq-first, seq-both, choice-first, choice-second, star-stop, star-more, not, call, def-fail, def-pass, match, is-none, is-some, isa-none, isa-some, exists, block, local, if, on}
-use Rattle.meaning.specs.Steps.{used}
+use Rattle.meaning.specs.Cut.{Cut, no-steps, no-depth, no-room, empty-round, cut-first, cut-second, cut-alternative, cut-other, cut-round, cut-later, cut-not, cut-call, cut-def, cut-is, cut-isa, cut-block, cut-local, cut-on}
+use Rattle.meaning.specs.Steps.{used, spent}
 
 module _ (g : Grammar) (x : List ℕ) where
   pub counted : {v : Env} {e : Expr} {p : ℕ} {σ : State} {o : Outcome} {c : Cost} (D : Derives g x v e p σ o c) → used g x D ≡ c .steps
@@ -39,3 +41,25 @@ module _ (g : Grammar) (x : List ℕ) where
   counted (local D) = ap suc (counted D)
   counted if = refl
   counted (on D) = ap suc (counted D)
+
+  pub spent-counted :
+      {r d b : ℕ} {v : Env} {e : Expr} {p : ℕ} {σ : State} {n s : ℕ} {c : Cost} (K : Cut g x r d b v e p σ n s c) → spent g x K ≡ c .steps
+  unfolding spent
+  spent-counted no-steps = refl
+  spent-counted no-depth = refl
+  spent-counted (no-room D w h) = ap suc (counted D)
+  spent-counted (empty-round D w h) = ap suc (counted D)
+  spent-counted (cut-first K) = ap suc (spent-counted K)
+  spent-counted (cut-second D w K) = omega (arith, counted D, spent-counted K)
+  spent-counted (cut-alternative K) = ap suc (spent-counted K)
+  spent-counted (cut-other D w K) = omega (arith, counted D, spent-counted K)
+  spent-counted (cut-round K) = ap suc (spent-counted K)
+  spent-counted (cut-later D w h K) = omega (arith, counted D, spent-counted K)
+  spent-counted (cut-not K) = ap suc (spent-counted K)
+  spent-counted (cut-call K) = ap suc (spent-counted K)
+  spent-counted (cut-def K) = ap suc (spent-counted K)
+  spent-counted (cut-is h K) = ap suc (spent-counted K)
+  spent-counted (cut-isa h K) = ap suc (spent-counted K)
+  spent-counted (cut-block K) = ap suc (spent-counted K)
+  spent-counted (cut-local K) = ap suc (spent-counted K)
+  spent-counted (cut-on K) = ap suc (spent-counted K)

@@ -19,13 +19,13 @@ use Rattle.meaning.specs.Rules.{Derives}
 use Rattle.meaning.specs.Limits.{Within}
 use Rattle.meaning.specs.Cut.{Cut}
 use Rattle.meaning.specs.Kept.{kept}
-use Rattle.meaning.specs.Steps.{used}
+use Rattle.meaning.specs.Steps.{used, spent}
 use Rattle.meaning.specs.Run.{Result, ran, refused as stopped, rounds, run}
 use Rattle.meaning.specs.Recognise.{Answer, Called, answerOf, flat, filled, slotsAfter, refusal, fromStart, within, allowed, onGood, onImage, recognise}
 use Rattle.meaning.specs.Complete.{complete, cut-complete}
 use Rattle.meaning.specs.Exact.{exact, raised, stop-number}
 use Rattle.meaning.specs.Exact as e
-use Rattle.meaning.specs.Counted.{counted}
+use Rattle.meaning.specs.Counted.{counted, spent-counted}
 use Rattle.meaning.specs.Remain.{remain, ends-eq}
 use Rattle.meaning.specs.Room.{room-enough, of-pass}
 use Rattle.meaning.specs.SlotLaws.{past-same, filled-length}
@@ -61,13 +61,13 @@ module _ (g : Grammar) (x : List ℕ) (B D R : ℕ) where
   Stops = Cut g x R D B outset (node g (g .start)) 0 []
 
   -- DEMAND 2, of an answer. Accepted n, or failed, exactly if the rules have a derivation of that within the limits; refused 12 to 15
-  -- exactly if there is none, and then as the run that is cut short says; the count is the derivation's own steps. (That there is
-  -- at most one derivation is `unique`.)
+  -- exactly if there is none, and then as the run that is cut short says; the count is the derivation's own steps, also where it is cut short.
+  -- (That there is at most one derivation is `unique`.)
   pub record Demand2 (a : Answer) : Type 0 where
     pub accepts : (n : ℕ) → ((a .kind ≡ 0) × (a .consumed ≡ n)) ↔ Accepts n
     pub fails : (a .kind ≡ 99) ↔ Fails
     pub refuses : ((12 ≤ a .kind) × (a .kind ≤ 15)) ↔ ¬ Derivable
-    pub stops : (n s : ℕ) (c : Cost) → Stops n s c → (a .kind ≡ n) × (a .place ≡ s) × (a .steps ≡ c .steps) × (a .depth ≡ c .depth)
+    pub stops : (n s : ℕ) (c : Cost) (K : Stops n s c) → (a .kind ≡ n) × (a .place ≡ s) × (a .steps ≡ spent g x K) × (a .depth ≡ c .depth)
     pub counts : (o : Outcome) (c : Cost) (E : Recognises g x o c) → Within c D B R → a .steps ≡ used g x E
 
   -- DEMAND 3, of the slots before and after. The symbols left in them are the definitions that remain of the derivation.
@@ -89,15 +89,28 @@ module _ (g : Grammar) (x : List ℕ) (B D R : ℕ) where
 
   machine-2 : Demand2 g x B D R (answerOf (fromStart g x B D R))
   machine-2 = record {
-    accepts = λ n. ((λ h. accepted n (fromStart g x B D R) refl h), λ h. (ap (λ r. answerOf r .kind) (found (h .2) (h .3)), ap (λ r. answerOf r .consumed) (found (h .2) (h .3))));
+    accepts =
+        λ n. (
+          (λ h. accepted n (fromStart g x B D R) refl h),
+          λ h. (ap (λ r. answerOf r .kind) (found (h .2) (h .3)), ap (λ r. answerOf r .consumed) (found (h .2) (h .3))),
+        );
     fails = ((λ h. failed (fromStart g x B D R) refl h), λ h. ap (λ r. answerOf r .kind) (found (h .1) (h .2)));
-    refuses = ((λ h z. unrefused (z .0) (z .1) (ap (λ r. answerOf r .kind) (found (z .2) (z .3))) h), λ h. refused-by (fromStart g x B D R) refl h);
-    stops = λ n s c K. let h = cut-complete g x R K in
-        (ap (λ r. answerOf r .kind) h, ap (λ r. answerOf r .place) h, ap (λ r. answerOf r .steps) h, ap (λ r. answerOf r .depth) h);
+    refuses = (
+      (λ h z. unrefused (z .0) (z .1) (ap (λ r. answerOf r .kind) (found (z .2) (z .3))) h),
+      λ h. refused-by (fromStart g x B D R) refl h,
+    );
+    stops = λ n s c K. let h = cut-complete g x R K in (
+      ap (λ r. answerOf r .kind) h,
+      ap (λ r. answerOf r .place) h,
+      ap (λ r. answerOf r .steps) h
+          ∙ sym (spent-counted g x K),
+      ap (λ r. answerOf r .depth) h,
+    );
     counts = λ o c E w. steps-of o c (found E w) ∙ sym (counted g x E);
   }
     where
-      accepted : (n : ℕ) (r : Result) → fromStart g x B D R ≡ r → (answerOf r .kind ≡ 0) × (answerOf r .consumed ≡ n) → Accepts g x B D R n
+      accepted :
+          (n : ℕ) (r : Result) → fromStart g x B D R ≡ r → (answerOf r .kind ≡ 0) × (answerOf r .consumed ≡ n) → Accepts g x B D R n
       accepted n (ran (pass q τ) c) e h = let s = exactly (e ∙ ap (λ m. ran (pass m τ) c) (h .1)) in (τ, c, s .0, s .1)
       accepted n (ran fail c) e h = absurd (omega arith)
       accepted n (stopped k q c) e h = let l = number-of e in absurd (omega arith)
@@ -123,18 +136,30 @@ module _ (g : Grammar) (x : List ℕ) (B D R : ℕ) where
   machine-3 : (slots : List ℕ) → Demand3 g x B D R (answerOf (fromStart g x B D R)) slots (slotsAfter R (fromStart g x B D R) slots)
   machine-3 slots = record {
     symbols = λ n τ c E w.
-        let same : τ ≡ kept g x E = ends-eq g x (remain g x E) in
-        (ap (λ r. answerOf r .symbols) (found E w) ∙ ap length same, ap (λ r. slotsAfter R r slots) (found E w) ∙ ap (λ l. filled R l slots) same);
+        let same : τ ≡ kept g x E = ends-eq g x (remain g x E) in (
+          ap (λ r. answerOf r .symbols) (found E w) ∙ ap length same,
+          ap (λ r. slotsAfter R r slots) (found E w)
+              ∙ ap (λ l. filled R l slots) same,
+        );
   }
 
 -- ## And of recognise
 
 module _ {image : List ℕ} {g : Grammar} {x : List ℕ} {B D R : ℕ} {slots : List ℕ} (E : Entered image g x B D R slots) where
   ranges : allowed B D R ≡ true
-  ranges = rw (le-leb 1 B (E .some-steps), le-leb B 1000000 (E .few-steps), le-leb 1 D (E .some-depth), le-leb D 256 (E .small-depth), le-leb 0 R (omega arith), le-leb R 256 (E .small-room))
+  ranges =
+      rw (
+        le-leb 1 B (E .some-steps),
+        le-leb B 1000000 (E .few-steps),
+        le-leb 1 D (E .some-depth),
+        le-leb D 256 (E .small-depth),
+        le-leb 0 R (omega arith),
+        le-leb R 256 (E .small-room),
+      )
 
   -- Once the entry checks pass, the answer and the slots are the run's.
-  pub runs : recognise image x B D R slots ≡ record { answer = answerOf (fromStart g x B D R); slots = slotsAfter R (fromStart g x B D R) slots }
+  pub runs :
+      recognise image x B D R slots ≡ record { answer = answerOf (fromStart g x B D R); slots = slotsAfter R (fromStart g x B D R) slots }
   unfolding recognise
   runs = rw (E .image-good) (rw (le-ltb 65535 (length x) (E .input-short), ranges, le-ltb (length slots) (3 * R) (E .slots-enough)))
 
@@ -172,7 +197,8 @@ pub raised-limits : {image : List ℕ} {g : Grammar} {x : List ℕ} {B D R B′ 
     → Entered image g x B D R slots → Entered image g x B′ D′ R′ slots′ → B ≤ B′ → D ≤ D′ → R ≤ R′
     → (recognise image x B D R slots .answer .kind ≡ 0) ⊎ (recognise image x B D R slots .answer .kind ≡ 99)
     → (recognise image x B′ D′ R′ slots′ .answer ≡ recognise image x B D R slots .answer)
-    × (τ : State) × (recognise image x B D R slots .slots ≡ filled R τ slots) × (recognise image x B′ D′ R′ slots′ .slots ≡ filled R′ τ slots′)
+    × (τ : State) × (recognise image x B D R slots .slots ≡ filled R τ slots) ×
+    (recognise image x B′ D′ R′ slots′ .slots ≡ filled R′ τ slots′)
 raised-limits {image} {g} {x} {B} {D} {R} {B′} {D′} {R′} {slots} {slots′} E E′ hB hD hR ended =
     rw (runs E, runs E′) (go (fromStart g x B D R) refl (rw (runs E) at ended))
   where
@@ -181,16 +207,25 @@ raised-limits {image} {g} {x} {B} {D} {R} {B′} {D′} {R′} {slots} {slots′
 
     go : (r : Result) → fromStart g x B D R ≡ r → (answerOf (fromStart g x B D R) .kind ≡ 0) ⊎ (answerOf (fromStart g x B D R) .kind ≡ 99)
         → (answerOf (fromStart g x B′ D′ R′) ≡ answerOf (fromStart g x B D R))
-        × (τ : State) × (slotsAfter R (fromStart g x B D R) slots ≡ filled R τ slots) × (slotsAfter R′ (fromStart g x B′ D′ R′) slots′ ≡ filled R′ τ slots′)
-    go (ran (pass n τ) c) h ended = (ap answerOf (same h ∙ sym h), τ, ap (λ r. slotsAfter R r slots) h, ap (λ r. slotsAfter R′ r slots′) (same h))
-    go (ran fail c) h ended = (ap answerOf (same h ∙ sym h), [], ap (λ r. slotsAfter R r slots) h, ap (λ r. slotsAfter R′ r slots′) (same h))
-    go (stopped n q c) h (inl k) = let l = number-of g x B D R h in let m : answerOf (fromStart g x B D R) .kind ≡ n = ap (λ r. answerOf r .kind) h in absurd (omega arith)
-    go (stopped n q c) h (inr k) = let l = number-of g x B D R h in let m : answerOf (fromStart g x B D R) .kind ≡ n = ap (λ r. answerOf r .kind) h in absurd (omega arith)
+        × (τ : State) × (slotsAfter R (fromStart g x B D R) slots ≡ filled R τ slots) ×
+        (slotsAfter R′ (fromStart g x B′ D′ R′) slots′ ≡ filled R′ τ slots′)
+    go (ran (pass n τ) c) h ended =
+        (ap answerOf (same h ∙ sym h), τ, ap (λ r. slotsAfter R r slots) h, ap (λ r. slotsAfter R′ r slots′) (same h))
+    go (ran fail c) h ended =
+        (ap answerOf (same h ∙ sym h), [], ap (λ r. slotsAfter R r slots) h, ap (λ r. slotsAfter R′ r slots′) (same h))
+    go (stopped n q c) h (inl k) =
+        let l = number-of g x B D R h in let m : answerOf (fromStart g x B D R) .kind ≡ n = ap (λ r. answerOf r .kind) h in
+        absurd (omega arith)
+    go (stopped n q c) h (inr k) =
+        let l = number-of g x B D R h in let m : answerOf (fromStart g x B D R) .kind ≡ n = ap (λ r. answerOf r .kind) h in
+        absurd (omega arith)
 
 -- ## The entry checks, in their order
 
 -- 1 to 8: the image's own fault, whatever input, limits and slots are.
-pub image-refused : (image x : List ℕ) (B D R : ℕ) (slots : List ℕ) (n place : ℕ) → readImage image ≡ refused n place → recognise image x B D R slots ≡ refusal n place slots
+pub image-refused :
+    (image x : List ℕ) (B D R : ℕ) (slots : List ℕ) (n place : ℕ) → readImage image ≡ refused n place
+    → recognise image x B D R slots ≡ refusal n place slots
 unfolding recognise
 image-refused image x B D R slots n place e = rw e
 

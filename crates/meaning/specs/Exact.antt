@@ -52,8 +52,11 @@ module _ (g : Grammar) (x : List ℕ) (v : Env) (e : Expr) (p : ℕ) (σ : State
       go k (refused n s c) h = (n, s, c, stopped r d b n s c .0 h)
 
   -- Raised limits.
-  pub raised : (r d b r′ d′ b′ : ℕ) (o : Outcome) (c : Cost) → r ≤ r′ → d ≤ d′ → b ≤ b′ → run g x r d b v e p σ ≡ ran o c → run g x r′ d′ b′ v e p σ ≡ ran o c
-  raised r d b r′ d′ b′ o c hr hd hb h = let s = exact r d b o c .0 h in let w : Within c d b r = s .1 in complete g x r′ (s .0) d′ b′ (omega arith)
+  pub raised :
+      (r d b r′ d′ b′ : ℕ) (o : Outcome) (c : Cost) → r ≤ r′ → d ≤ d′ → b ≤ b′ → run g x r d b v e p σ ≡ ran o c
+      → run g x r′ d′ b′ v e p σ ≡ ran o c
+  raised r d b r′ d′ b′ o c hr hd hb h =
+      let s = exact r d b o c .0 h in let w : Within c d b r = s .1 in complete g x r′ (s .0) d′ b′ (omega arith)
 
   pub at-most-one : (o o′ : Outcome) (c c′ : Cost) → Derives g x v e p σ o c → Derives g x v e p σ o′ c′ → (o ≡ o′) × (c ≡ c′)
   at-most-one o o′ c c′ D E =
@@ -65,14 +68,17 @@ module _ (g : Grammar) (x : List ℕ) (v : Env) (e : Expr) (p : ℕ) (σ : State
       (cc, cc)
 
   -- There is at most one way in which a run is cut short: its number, place and cost are fixed.
-  pub one-stop : (r d b n n′ s s′ : ℕ) (c c′ : Cost) → Cut g x r d b v e p σ n s c → Cut g x r d b v e p σ n′ s′ c′ → (n ≡ n′) × (s ≡ s′) × (c ≡ c′)
+  pub one-stop :
+      (r d b n n′ s s′ : ℕ) (c c′ : Cost) → Cut g x r d b v e p σ n s c → Cut g x r d b v e p σ n′ s′ c′ → (n ≡ n′) × (s ≡ s′) × (c ≡ c′)
   one-stop r d b n n′ s s′ c c′ K L =
       let one = cut-complete g x r K in
       let two = cut-complete g x r L in
       (cc, cc, cc)
 
 -- A refusal of a run is one of 12 to 15.
-pub stop-number : {g : Grammar} {x : List ℕ} {r d b : ℕ} {v : Env} {e : Expr} {p : ℕ} {σ : State} {n s : ℕ} {c : Cost} → Cut g x r d b v e p σ n s c → (12 ≤ n) × (n ≤ 15)
+pub stop-number :
+    {g : Grammar} {x : List ℕ} {r d b : ℕ} {v : Env} {e : Expr} {p : ℕ} {σ : State} {n s : ℕ} {c : Cost} → Cut g x r d b v e p σ n s c
+    → (12 ≤ n) × (n ≤ 15)
 stop-number no-steps = omega arith
 stop-number no-depth = omega arith
 stop-number (no-room D w h) = omega arith

@@ -25,7 +25,8 @@ same-length (a ∷ aa) (b ∷ bs) e = ap suc (same-length aa bs (right (eqb a b)
     right false t e = let z : _≡_ {A = ℕ} 0 1 = cc in absurd (omega arith)
 
 begins-fits : (bs y : List ℕ) → begins bs y ≡ true → length bs ≤ length y
-begins-fits bs y e = let h : length (take (length bs) y) ≡ length bs = same-length (take (length bs) y) bs e in omega (arith, simp length-take at h)
+begins-fits bs y e =
+    let h : length (take (length bs) y) ≡ length bs = same-length (take (length bs) y) bs e in omega (arith, simp length-take at h)
 
 one-fits : (y : List ℕ) → some y ≡ true → 1 ≤ length y
 one-fits [] e = let z : _≡_ {A = ℕ} 0 1 = cc in absurd (omega arith)
@@ -80,7 +81,8 @@ module _ (g : Grammar) (x : List ℕ) where
   ahead-compared σ l (ahead h k) = ahead-if _ _ _ (λ e. (h, k))
   ahead-compared σ l stuck = stuck
 
-  pub forward : {v : Env} {e : Expr} {p : ℕ} {σ : State} {o : Outcome} {c : Cost} → Derives g x v e p σ o c → p ≤ length x → Ahead p (length x) o
+  pub forward :
+      {v : Env} {e : Expr} {p : ℕ} {σ : State} {o : Outcome} {c : Cost} → Derives g x v e p σ o c → p ≤ length x → Ahead p (length x) o
   forward empty h = ahead (le-refl _) h
   forward (byte {b = b} {p = p}) h = ahead-if _ _ _ (λ e. fits p 1 h (begins-fits (b ∷ []) (drop p x) e))
   forward (range {lo = lo} {hi = hi} {p = p}) h = ahead-if _ _ _ (λ e. fits p 1 h (range-fits lo hi (drop p x) e))

@@ -4,9 +4,9 @@ pub mod Outcome
 pub mod Cost
 pub mod Rules
 pub mod Kept
-pub mod Steps
 pub mod Limits
 pub mod Cut
+pub mod Steps
 pub mod Run
 pub mod Recognise
 pub mod RunLaws
@@ -23,3 +23,5 @@ pub mod SlotLaws
 pub mod Room
 pub mod Demands
 pub mod Cases
+pub mod Trials
+pub mod Shams

@@ -47,7 +47,9 @@ others-fewer : (t : ℕ) (σ : State) → length (others t σ) ≤ length σ
 others-fewer t [] = omega arith
 others-fewer t (s ∷ σ) = go (eqb (s .table) t) (others-fewer t σ)
   where
-    go : (b : Bool) → length (others t σ) ≤ length σ → length {A = Symbol} (elim b [ true ↦ others t σ | false ↦ s ∷ others t σ ]) ≤ suc (length σ)
+    go :
+        (b : Bool) → length (others t σ) ≤ length σ
+        → length {A = Symbol} (elim b [ true ↦ others t σ | false ↦ s ∷ others t σ ]) ≤ suc (length σ)
     go true h = omega arith
     go false h = omega arith
 
@@ -56,7 +58,8 @@ unfolding closed
 closed-most {n} t σ h (holds {τ = τ} l) = holds fewer
   where
     fewer : length (σ ++ others t (drop (length σ) τ)) ≤ n
-    fewer = rw (length-append σ (others t (drop (length σ) τ))) (omega (arith, others-fewer t (drop (length σ) τ), length-drop (length σ) τ))
+    fewer =
+        rw (length-append σ (others t (drop (length σ) τ))) (omega (arith, others-fewer t (drop (length σ) τ), length-drop (length σ) τ))
 closed-most t σ h fails = fails
 
 matched-most : (x : List ℕ) {n : ℕ} (p : ℕ) (σ l : State) → length σ ≤ n → AtMost n (matched x p σ l)
@@ -76,7 +79,8 @@ module _ (g : Grammar) (x : List ℕ) where
   stored : (σ : State) (s : Symbol) (c : Cost) → length (σ ++ (s ∷ [])) ≤ max (length σ) (max (c .room) (suc (length σ)))
   stored σ s c = rw (length-append σ (s ∷ [])) (omega arith)
 
-  pub room-enough : {v : Env} {e : Expr} {p : ℕ} {σ : State} {o : Outcome} {c : Cost} → Derives g x v e p σ o c → AtMost (max (length σ) (c .room)) o
+  pub room-enough :
+      {v : Env} {e : Expr} {p : ℕ} {σ : State} {o : Outcome} {c : Cost} → Derives g x v e p σ o c → AtMost (max (length σ) (c .room)) o
   room-enough (empty {σ = σ}) = holds {τ = σ} (omega arith)
   room-enough byte = if-most _ _ _ (omega arith)
   room-enough range = if-most _ _ _ (omega arith)

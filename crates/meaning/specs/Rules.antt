@@ -24,9 +24,12 @@ module _ (g : Grammar) (x : List ℕ) where
   pub data Derives : Env → Expr → ℕ → State → Outcome → Cost → Type 0 where
     empty : {v : Env} {p : ℕ} {σ : State} → Derives v Empty p σ (pass p σ) (enter nothing)
     byte : {v : Env} {b p : ℕ} {σ : State} → Derives v (Byte b) p σ (passIf (begins (b ∷ []) (drop p x)) (p + 1) σ) (enter nothing)
-    range : {v : Env} {lo hi p : ℕ} {σ : State} → Derives v (Range lo hi) p σ (passIf (inRange lo hi (drop p x)) (p + 1) σ) (enter nothing)
+    range :
+        {v : Env} {lo hi p : ℕ} {σ : State} → Derives v (Range lo hi) p σ (passIf (inRange lo hi (drop p x)) (p + 1) σ) (enter nothing)
     any : {v : Env} {p : ℕ} {σ : State} → Derives v Any p σ (passIf (some (drop p x)) (p + 1) σ) (enter nothing)
-    text : {v : Env} {bytes : List ℕ} {p : ℕ} {σ : State} → Derives v (Text bytes) p σ (passIf (begins bytes (drop p x)) (p + length bytes) σ) (enter nothing)
+    text :
+        {v : Env} {bytes : List ℕ} {p : ℕ} {σ : State}
+        → Derives v (Text bytes) p σ (passIf (begins bytes (drop p x)) (p + length bytes) σ) (enter nothing)
     -- Sequence: a, then b from where a came to.
     seq-first : {v : Env} {a b p : ℕ} {σ : State} {c : Cost}
         → Derives v (node g a) p σ fail c → Derives v (Sequence a b) p σ fail (enter c)
@@ -69,6 +72,8 @@ module _ (g : Grammar) (x : List ℕ) where
         → Derives v (node g a) p σ o c → Derives v (Block t a) p σ (closed t σ o) (enter c)
     local : {v : Env} {t a p : ℕ} {σ : State} {o : Outcome} {c : Cost}
         → Derives (hide v t σ) (node g a) p σ o c → Derives v (Local t a) p σ (closed t σ o) (enter c)
-    if : {v : Env} {k p : ℕ} {w : Bool} {σ : State} → Derives v (If k w) p σ (passIf (agree (getD (v .truths) k true) w) p σ) (enter nothing)
+    if :
+        {v : Env} {k p : ℕ} {w : Bool} {σ : State}
+        → Derives v (If k w) p σ (passIf (agree (getD (v .truths) k true) w) p σ) (enter nothing)
     on : {v : Env} {k a p : ℕ} {w : Bool} {σ : State} {o : Outcome} {c : Cost}
         → Derives (switch v k w) (node g a) p σ o c → Derives v (On k w a) p σ (restored σ o) (enter c)

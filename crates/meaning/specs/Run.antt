@@ -79,8 +79,10 @@ module _ (g : Grammar) (x : List ℕ) (room : ℕ) where
   entered f b v (Call i) p σ = charge (f b v (node g i) p σ)
   entered f b v (Def t) p σ = charge (next (f b v (named g t) p σ) (onPass (λ q τ c. stored (ltb (length σ) room) t p σ q c)))
   entered f b v (Match t) p σ = ran (matched x p σ (visible v t σ)) (enter nothing)
-  entered f b v (Is t) p σ = charge (ifAny (some (visible v t σ)) (λ u. next (f b v (named g t) p σ) (λ o c. ran (compared x p σ (take 1 (visible v t σ)) o) c)))
-  entered f b v (Isa t) p σ = charge (ifAny (some (visible v t σ)) (λ u. next (f b v (named g t) p σ) (λ o c. ran (compared x p σ (visible v t σ) o) c)))
+  entered f b v (Is t) p σ =
+      charge (ifAny (some (visible v t σ)) (λ u. next (f b v (named g t) p σ) (λ o c. ran (compared x p σ (take 1 (visible v t σ)) o) c)))
+  entered f b v (Isa t) p σ =
+      charge (ifAny (some (visible v t σ)) (λ u. next (f b v (named g t) p σ) (λ o c. ran (compared x p σ (visible v t σ) o) c)))
   entered f b v (Exists t) p σ = ran (passIf (some (visible v t σ)) p σ) (enter nothing)
   entered f b v (Block t i) p σ = charge (next (f b v (node g i) p σ) (λ o c. ran (closed t σ o) c))
   entered f b v (Local t i) p σ = charge (next (f b (hide v t σ) (node g i) p σ) (λ o c. ran (closed t σ o) c))

@@ -73,7 +73,8 @@ module _ (g : Grammar) (x : List ℕ) (r : ℕ) where
   -- A Star is one round and then the Star again.
   pub star-round : (d b : ℕ) → 1 ≤ d → 1 ≤ b → (v : Env) (a p : ℕ) (σ : State)
       → run g x r d b v (Star a) p σ
-      ≡ next (charge (run g x r (pred d) (pred b) v (node g a) p σ)) (round p σ (λ q τ c. after c (run g x r d (b - c .steps) v (Star a) q τ)))
+      ≡ next (charge (run g x r (pred d) (pred b) v (node g a) p σ))
+      (round p σ (λ q τ c. after c (run g x r d (b - c .steps) v (Star a) q τ)))
   star-round d b h h′ v a p σ =
       star-run d b h v a p σ
       ∙ star-law (λ k q τ. run g x r (pred d) k v (node g a) q τ) b h′ p σ

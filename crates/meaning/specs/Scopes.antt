@@ -30,7 +30,8 @@ of-append t [] τ = refl
 of-append t (s ∷ σ) τ = go (eqb (s .table) t) (of-append t σ τ)
   where
     go : (b : Bool) → ofTable t (σ ++ τ) ≡ ofTable t σ ++ ofTable t τ
-        → (elim b [ true ↦ s ∷ ofTable t (σ ++ τ) | false ↦ ofTable t (σ ++ τ) ]) ≡ (elim b [ true ↦ s ∷ ofTable t σ | false ↦ ofTable t σ ]) ++ ofTable t τ
+        → (elim b [ true ↦ s ∷ ofTable t (σ ++ τ) | false ↦ ofTable t (σ ++ τ) ])
+        ≡ (elim b [ true ↦ s ∷ ofTable t σ | false ↦ ofTable t σ ]) ++ ofTable t τ
     go true e = ap (λ l. s ∷ l) e
     go false e = e
 
@@ -38,7 +39,9 @@ own-out : (t : ℕ) (σ : State) → ofTable t (others t σ) ≡ []
 own-out t [] = refl
 own-out t (s ∷ σ) = go (eqb (s .table) t) refl (own-out t σ)
   where
-    go : (b : Bool) → eqb (s .table) t ≡ b → ofTable t (others t σ) ≡ [] → ofTable t (elim b [ true ↦ others t σ | false ↦ s ∷ others t σ ]) ≡ []
+    go :
+        (b : Bool) → eqb (s .table) t ≡ b → ofTable t (others t σ) ≡ []
+        → ofTable t (elim b [ true ↦ others t σ | false ↦ s ∷ others t σ ]) ≡ []
     go true e h = h
     go false e h = rw (e, ofTable) h
 
@@ -52,8 +55,11 @@ other-in u t n (s ∷ σ) = go (eqb (s .table) t) refl (other-in u t n σ)
     go false e h = ap (λ l. elim (eqb (s .table) u) [ true ↦ s ∷ l | false ↦ l ]) h
 
 -- A table's list after more was stored, where nothing of that is hidden.
-seen-more : (v : Env) (u : ℕ) (σ l : State) → Floored v σ → visible v u (σ ++ l) ≡ reverse (ofTable u (drop (getD (v .floors) u 0) σ) ++ ofTable u l)
-seen-more v u σ l f = ap reverse (ap (ofTable u) (drop-append-le (getD (v .floors) u 0) σ l (f u)) ∙ of-append u (drop (getD (v .floors) u 0) σ) l)
+seen-more :
+    (v : Env) (u : ℕ) (σ l : State) → Floored v σ
+    → visible v u (σ ++ l) ≡ reverse (ofTable u (drop (getD (v .floors) u 0) σ) ++ ofTable u l)
+seen-more v u σ l f =
+    ap reverse (ap (ofTable u) (drop-append-le (getD (v .floors) u 0) σ l (f u)) ∙ of-append u (drop (getD (v .floors) u 0) σ) l)
 
 -- ## The laws
 
@@ -73,7 +79,8 @@ module _ (g : Grammar) (x : List ℕ) where
   unfolding closed
   scope-is-left t σ τ q = refl
 
-  module _ (v : Env) {w : Env} {e : Expr} {p q : ℕ} {σ τ : State} {c : Cost} (D : Derives g x w e p σ (pass q τ) c) (f : Floored v σ) where
+  module _ (v : Env) {w : Env} {e : Expr} {p q : ℕ} {σ τ : State} {c : Cost} (D : Derives g x w e p σ (pass q τ) c)
+      (f : Floored v σ) where
     -- After a Block or a Local its own table's list is as it was before.
     pub own-list-back : (t : ℕ) → visible v t (left t σ τ) ≡ visible v t σ
     own-list-back t =

@@ -14,7 +14,9 @@ flat-length (s ∷ τ) = omega (arith, flat-length τ)
 
 module _ (R : ℕ) (τ : State) (slots : List ℕ) (h : length τ ≤ R) where
   front : length (flat τ ++ replicate (3 * R - 3 * length τ) 0) ≡ 3 * R
-  front = length-append (flat τ) (replicate (3 * R - 3 * length τ) 0) ∙ rw (flat-length τ, length-replicate {A = ℕ} (3 * R - 3 * length τ) 0) (omega arith)
+  front =
+      length-append (flat τ) (replicate (3 * R - 3 * length τ) 0)
+      ∙ rw (flat-length τ, length-replicate {A = ℕ} (3 * R - 3 * length τ) 0) (omega arith)
 
   -- Numbers past 3R are as they were.
   pub past-same : drop (3 * R) (filled R τ slots) ≡ drop (3 * R) slots

@@ -28,7 +28,8 @@ charge-all (came h) = came h
 charge-all (cut h) = cut h
 
 after-all : {P Q : Outcome → Cost → Type 0} {R S : ℕ → ℕ → Cost → Type 0} (c : Cost) {r : Result}
-    → All P R r → ((o : Outcome) (d : Cost) → P o d → Q o (c ⊕ d)) → ((n p : ℕ) (d : Cost) → R n p d → S n p (c ⊕ d)) → All Q S (after c r)
+    → All P R r → ((o : Outcome) (d : Cost) → P o d → Q o (c ⊕ d)) → ((n p : ℕ) (d : Cost) → R n p d → S n p (c ⊕ d))
+    → All Q S (after c r)
 after-all c (came h) f k = came (f _ _ h)
 after-all c (cut h) f k = cut (k _ _ _ h)
 
@@ -66,8 +67,11 @@ module _ (g : Grammar) (x : List ℕ) (r : ℕ) where
   Answers d b v e p σ = All (Found d b v e p σ) (Cut g x r d b v e p σ)
 
   -- One expression, whose parts are run by an f that is sound at one depth less.
-  module _ (d : ℕ) (f : ℕ → Env → Expr → ℕ → State → Result) (hf : (b : ℕ) (v : Env) (e : Expr) (p : ℕ) (σ : State) → Answers d b v e p σ (f b v e p σ)) where
-    leaf : {b : ℕ} {v : Env} {e : Expr} {p : ℕ} {σ : State} {o : Outcome} → Derives g x v e p σ o (enter nothing) → Answers (suc d) (suc b) v e p σ (ran o (enter nothing))
+  module _ (d : ℕ) (f : ℕ → Env → Expr → ℕ → State → Result)
+      (hf : (b : ℕ) (v : Env) (e : Expr) (p : ℕ) (σ : State) → Answers d b v e p σ (f b v e p σ)) where
+    leaf :
+        {b : ℕ} {v : Env} {e : Expr} {p : ℕ} {σ : State} {o : Outcome} → Derives g x v e p σ o (enter nothing)
+        → Answers (suc d) (suc b) v e p σ (ran o (enter nothing))
     leaf D = came (record { derived = D; fits = omega arith })
 
     -- With one part inside.
@@ -75,12 +79,14 @@ module _ (g : Grammar) (x : List ℕ) (r : ℕ) where
         → ((o : Outcome) (c : Cost) → Derives g x v′ e′ p σ o c → Derives g x v e p σ (h o) (enter c))
         → ((n s : ℕ) (c : Cost) → Cut g x r d b v′ e′ p σ n s c → Cut g x r (suc d) (suc b) v e p σ n s (enter c))
         → Answers (suc d) (suc b) v e p σ (charge (next (f b v′ e′ p σ) (λ o c. ran (h o) c)))
-    one rule stop = charge-all (next-all (hf _ _ _ _ _) (λ o c D. came (record { derived = rule o c (D .derived); fits = omega arith })) stop)
+    one rule stop =
+        charge-all (next-all (hf _ _ _ _ _) (λ o c D. came (record { derived = rule o c (D .derived); fits = omega arith })) stop)
 
     less : (b n : ℕ) → suc b - suc n ≡ b - n
     less b n = omega arith
 
-    rounds-sound : (v : Env) (a k b p : ℕ) (σ : State) → b ≤ k → Answers (suc d) b v (Star a) p σ (rounds (λ j q τ. f j v (node g a) q τ) k b p σ)
+    rounds-sound :
+        (v : Env) (a k b p : ℕ) (σ : State) → b ≤ k → Answers (suc d) b v (Star a) p σ (rounds (λ j q τ. f j v (node g a) q τ) k b p σ)
     unfolding rounds
     rounds-sound v a zero zero p σ h = cut no-steps
     rounds-sound v a zero (suc b) p σ h = absurd (omega arith)
@@ -88,7 +94,8 @@ module _ (g : Grammar) (x : List ℕ) (r : ℕ) where
     rounds-sound v a (suc k) (suc b) p σ h = go (hf b v (node g a) p σ) (λ i q τ l. rounds-sound v a k i q τ l)
       where
         more : {q : ℕ} {τ : State} {c : Cost} {s : Result} → Found d b v (node g a) p σ (pass q τ) c → (t : Bool) → ltb p q ≡ t
-            → Answers (suc d) (suc b - suc (c .steps)) v (Star a) q τ s → Answers (suc d) (suc b) v (Star a) p σ (unlessEmpty t p (enter c) (λ u. after (enter c) s))
+            → Answers (suc d) (suc b - suc (c .steps)) v (Star a) q τ s
+            → Answers (suc d) (suc b) v (Star a) p σ (unlessEmpty t p (enter c) (λ u. after (enter c) s))
         more {q} {τ} {c} D true e E = after-all _ E
             (λ o c F. record { derived = star-more (D .derived) (ltb-true _ _ e) (F .derived); fits = omega arith })
             (λ n s e′ K. cut-later (D .derived) (D .fits) (ltb-true _ _ e) (rw (less b (c .steps)) at K))
@@ -96,7 +103,8 @@ module _ (g : Grammar) (x : List ℕ) (r : ℕ) where
 
         go : {s : Result} → Answers d b v (node g a) p σ s
             → ((i q : ℕ) (τ : State) → i ≤ k → Answers (suc d) i v (Star a) q τ (rounds (λ j q τ. f j v (node g a) q τ) k i q τ))
-            → Answers (suc d) (suc b) v (Star a) p σ (next (charge s) (round p σ (λ q τ c. after c (rounds (λ j q τ. f j v (node g a) q τ) k (suc b - c .steps) q τ))))
+            → Answers (suc d) (suc b) v (Star a) p σ
+            (next (charge s) (round p σ (λ q τ c. after c (rounds (λ j q τ. f j v (node g a) q τ) k (suc b - c .steps) q τ))))
         go (came {o = pass q τ} {c = c} D) ih = more D (ltb p q) refl (ih (suc b - suc (c .steps)) q τ (omega arith))
         go (came {o = fail} D) ih = came (record { derived = star-stop (D .derived); fits = omega arith })
         go (cut K) ih = cut (cut-round K)
@@ -130,14 +138,16 @@ module _ (g : Grammar) (x : List ℕ) (r : ℕ) where
         (λ n s c K. cut-alternative K))
     entered-sound b v (Star i) p σ = rounds-sound v i (suc b) (suc b) p σ (omega arith)
     entered-sound b v (Not i) p σ = one (λ o c. not) (λ n s c. cut-not)
-    entered-sound b v (Call i) p σ = charge-all (all-map (hf _ _ _ _ _) (λ o c D. record { derived = call (D .derived); fits = omega arith }) (λ n s c. cut-call))
+    entered-sound b v (Call i) p σ =
+        charge-all (all-map (hf _ _ _ _ _) (λ o c D. record { derived = call (D .derived); fits = omega arith }) (λ n s c. cut-call))
     entered-sound b v (Def t) p σ = charge-all (pass-all (hf _ _ _ _ _)
         (λ q τ c D. store (ltb (length σ) r) refl D)
         (λ c D. record { derived = def-fail (D .derived); fits = omega arith })
         (λ n s c. cut-def))
       where
         store : {q : ℕ} {τ : State} {c : Cost} (k : Bool) → ltb (length σ) r ≡ k → Found d b v (named g t) p σ (pass q τ) c
-            → All (λ o c. Found (suc d) (suc b) v (Def t) p σ o (enter c)) (λ n s c. Cut g x r (suc d) (suc b) v (Def t) p σ n s (enter c)) (stored g x r k t p σ q c)
+            → All (λ o c. Found (suc d) (suc b) v (Def t) p σ o (enter c))
+            (λ n s c. Cut g x r (suc d) (suc b) v (Def t) p σ n s (enter c)) (stored g x r k t p σ q c)
         store true e D = came (record { derived = def-pass (D .derived); fits = omega (arith, ltb-true (length σ) r e) })
         store false e D = cut (no-room (D .derived) (D .fits) (ltb-false (length σ) r e))
     entered-sound b v (Match t) p σ = leaf match

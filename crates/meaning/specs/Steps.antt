@@ -1,5 +1,5 @@
--- The steps of a derivation, counted on the derivation itself: one for each rule used, so one for each expression entered and
--- one for each round of a Star. It knows nothing of costs.
+-- The steps of a derivation, and of a run that is cut short, counted on themselves: one for each rule used, so one for each expression
+-- entered and one for each round of a Star. A refused entry is not charged. They know nothing of costs.
 use Prim.Native.Nat.{ℕ, suc, _+_}
 use mathlib.Core.List.{List}
 use Rattle.grammar.specs.Expr.{Expr}
@@ -8,6 +8,7 @@ use Rattle.meaning.specs.State.{State, Env}
 use Rattle.meaning.specs.Outcome.{Outcome}
 use Rattle.meaning.specs.Cost.{Cost}
 use Rattle.meaning.specs.Rules.{Derives, empty, byte, range, any, text, seq-first, seq-both, choice-first, choice-second, star-stop, star-more, not, call, def-fail, def-pass, match, is-none, is-some, isa-none, isa-some, exists, block, local, if, on}
+use Rattle.meaning.specs.Cut.{Cut, no-steps, no-depth, no-room, empty-round, cut-first, cut-second, cut-alternative, cut-other, cut-round, cut-later, cut-not, cut-call, cut-def, cut-is, cut-isa, cut-block, cut-local, cut-on}
 
 module _ (g : Grammar) (x : List ℕ) where
   unfoldable pub used : {v : Env} {e : Expr} {p : ℕ} {σ : State} {o : Outcome} {c : Cost} → Derives g x v e p σ o c → ℕ
@@ -36,3 +37,24 @@ module _ (g : Grammar) (x : List ℕ) where
   used (local D) = suc (used D)
   used if = 1
   used (on D) = suc (used D)
+
+  -- Of a run that is cut short: what was entered before it was refused.
+  unfoldable pub spent : {r d b : ℕ} {v : Env} {e : Expr} {p : ℕ} {σ : State} {n s : ℕ} {c : Cost} → Cut g x r d b v e p σ n s c → ℕ
+  spent no-steps = 0
+  spent no-depth = 0
+  spent (no-room D w h) = suc (used D)
+  spent (empty-round D w h) = suc (used D)
+  spent (cut-first K) = suc (spent K)
+  spent (cut-second D w K) = suc (used D + spent K)
+  spent (cut-alternative K) = suc (spent K)
+  spent (cut-other D w K) = suc (used D + spent K)
+  spent (cut-round K) = suc (spent K)
+  spent (cut-later D w h K) = suc (used D + spent K)
+  spent (cut-not K) = suc (spent K)
+  spent (cut-call K) = suc (spent K)
+  spent (cut-def K) = suc (spent K)
+  spent (cut-is h K) = suc (spent K)
+  spent (cut-isa h K) = suc (spent K)
+  spent (cut-block K) = suc (spent K)
+  spent (cut-local K) = suc (spent K)
+  spent (cut-on K) = suc (spent K)
