@@ -1,0 +1,78 @@
+-- Bytes compared one after the other.
+use Prim.Native.Nat.{ℕ, zero, suc, _+_, _-_, _≤_, _<_}
+use mathlib.Core.Path.{_≡_, refl, ap, sym, _∙_}
+use mathlib.Core.Bool.{Bool, true, false}
+use mathlib.Core.List.{List, [], _∷_}
+use native.Mathlib.Omega.{arith}
+use native.Mathlib.Numerals.{add-one}
+use lib.Dec.{eqb}
+use lib.ListN.{length, take, drop, getD, length-take, length-drop}
+use lib.Seq.{drop-cons, length-take-le}
+use borrow.Author.Tests.{eq-eqb, ne-eqb}
+use Rattle.meaning.specs.Outcome.{_and_, same, begins}
+
+front : (l : List ℕ) (i m : ℕ) → i < length l → take (suc m) (drop i l) ≡ getD l i 0 ∷ take m (drop (suc i) l)
+front l i m h = ap (take (suc m)) (drop-cons l i 0 h)
+
+module _ (a : List ℕ) (i : ℕ) (b : List ℕ) (j n : ℕ) where
+  abbrev whole : Bool
+  whole = same (take n (drop i a)) (take n (drop j b))
+
+  abbrev rest : ℕ → Bool
+  rest k = same (take (n - k) (drop (i + k) a)) (take (n - k) (drop (j + k) b))
+
+  -- After k bytes that are equal: the whole is the same exactly if the rest is.
+  pub record Compared (k : ℕ) : Type 0 where
+    pub on : k ≤ n
+    pub left : whole ≡ rest k
+
+  pub compared-none : Compared 0
+  compared-none =
+      let e : n - 0 ≡ n = omega arith in
+      let f : i + 0 ≡ i = omega arith in
+      let g : j + 0 ≡ j = omega arith in
+      record { on = omega arith; left = rw (e, f, g) }
+
+  one-more : (k : ℕ) → k < n → i + k < length a → j + k < length b → rest k ≡ (eqb (getD a (i + k) 0) (getD b (j + k) 0) and rest (k + 1))
+  one-more k h ha hb =
+      let e : n - k ≡ suc (n - (k + 1)) = omega arith in
+      let f : i + (k + 1) ≡ suc (i + k) = omega arith in
+      let g : j + (k + 1) ≡ suc (j + k) = omega arith in
+      rw (e, front a (i + k) (n - (k + 1)) ha, front b (j + k) (n - (k + 1)) hb, f, g)
+
+  module _ {k : ℕ} (c : Compared k) (h : k < n) (ha : i + k < length a) (hb : j + k < length b) where
+    pub compared-more : getD a (i + k) 0 ≡ getD b (j + k) 0 → Compared (k + 1)
+    compared-more e = record {
+      on = omega arith;
+      left = c .left ∙ one-more k h ha hb ∙ ap (λ t. t and rest (k + 1)) (eq-eqb (getD a (i + k) 0) (getD b (j + k) 0) e);
+    }
+
+    pub compared-differs : (getD a (i + k) 0 ≡ getD b (j + k) 0 → ⊥) → false ≡ whole
+    compared-differs e =
+        sym (c .left ∙ one-more k h ha hb ∙ ap (λ t. t and rest (k + 1)) (ne-eqb (getD a (i + k) 0) (getD b (j + k) 0) e))
+
+  pub compared-all : {k : ℕ} → Compared k → n ≤ k → true ≡ whole
+  compared-all {k} c h = let e : n - k ≡ 0 = omega arith in sym (c .left ∙ rw e)
+
+-- Bytes that stand in a list, against the front of what is left of another.
+module _ (input : List ℕ) (at : ℕ) (b : List ℕ) (j n : ℕ) (fits : j + n ≤ length b) where
+  count : length (take n (drop j b)) ≡ n
+  count = length-take-le n (drop j b) (rw (length-drop j b) (omega arith))
+
+  pub begins-same : {r : Bool} → r ≡ same (take n (drop at input)) (take n (drop j b)) → r ≡ begins (take n (drop j b)) (drop at input)
+  begins-same e = rw count e
+
+  shorter : (u v : List ℕ) → length u < length v → same u v ≡ false
+  shorter [] [] h = absurd (omega arith)
+  shorter [] (y ∷ v) h = refl
+  shorter (x ∷ u) [] h = absurd (omega arith)
+  shorter (x ∷ u) (y ∷ v) h = go (eqb x y) (shorter u v (omega arith))
+    where
+      go : (t : Bool) → same u v ≡ false → (t and same u v) ≡ false
+      go true e = e
+      go false e = refl
+
+  pub begins-short : at ≤ length input → length input - at < n → false ≡ begins (take n (drop j b)) (drop at input)
+  begins-short l h =
+      sym (rw count (shorter (take n (drop at input)) (take n (drop j b))
+      (rw (count, length-take n (drop at input), length-drop at input) (omega arith))))

@@ -1,0 +1,4 @@
+pub mod Packed
+pub mod PackedLaws
+pub mod Slots
+pub mod SlotsLaws

@@ -1,0 +1,4 @@
+// The machine: the slot buffer, the leaves and the evaluator.
+pub mod bytes;
+pub mod outcome;
+pub mod slots;
