@@ -2,3 +2,4 @@ pub mod Packed
 pub mod PackedLaws
 pub mod Slots
 pub mod SlotsLaws
+pub mod Seen

@@ -1,0 +1,68 @@
+-- A table's list, found in the slot buffer: the latest symbol is where `latestOf` says, and the rest of the list is what lies below it.
+use Prim.Native.Nat.{ℕ, zero, suc, _+_, _-_, _*_, _≤_, _<_}
+use mathlib.Core.Path.{_≡_, refl, ap, sym, _∙_}
+use mathlib.Core.Bool.{Bool, true, false}
+use mathlib.Core.List.{List, [], _∷_, _++_, reverse, append-nil, reverse-append}
+use native.Mathlib.Omega.{arith}
+use lib.Dec.{eqb, ltb}
+use lib.ListN.{length, take, drop, getD, drop-of-length-le}
+use lib.Seq.{drop-append-le}
+use borrow.Author.Tests.{le-ltb, lt-ltb, ltb-true, ltb-false}
+use Rattle.image.specs.Reading.{pick}
+use Rattle.meaning.specs.State.{Symbol, State, Env, ofTable, visible}
+use Rattle.meaning.specs.Outcome.{some}
+use Rattle.machine.specs.Slots.{symbolAt, symbols, latestOf}
+use Rattle.machine.specs.SlotsLaws.{symbols-length}
+
+module _ (table low : ℕ) (slots : List ℕ) where
+  -- The list of the table, of the first h symbols those from `low` on, latest first.
+  abbrev pub listed : ℕ → State
+  listed h = reverse (ofTable table (drop low (symbols h slots)))
+
+  of-append : (σ τ : State) → ofTable table (σ ++ τ) ≡ ofTable table σ ++ ofTable table τ
+  of-append [] τ = refl
+  of-append (s ∷ σ) τ = go (eqb (s .table) table) (of-append σ τ)
+    where
+      go : (b : Bool) → ofTable table (σ ++ τ) ≡ ofTable table σ ++ ofTable table τ
+          → (elim b [ true ↦ s ∷ ofTable table (σ ++ τ) | false ↦ ofTable table (σ ++ τ) ]) ≡ (elim b [ true ↦ s ∷ ofTable table σ | false ↦ ofTable table σ ]) ++ ofTable table τ
+      go true e = ap (λ l. s ∷ l) e
+      go false e = e
+
+  below-floor : (h : ℕ) → h ≤ low → listed h ≡ []
+  below-floor h l = rw (drop-of-length-le (symbols h slots) {i = low} (omega (arith, symbols-length h slots)))
+
+  pub listed-step : (h : ℕ) → low ≤ h → listed (suc h) ≡ pick (eqb (getD slots (h * 3) 0) table) (symbolAt slots h ∷ listed h) (listed h)
+  unfolding symbols
+  listed-step h l =
+      ap reverse (ap (ofTable table) (drop-append-le low (symbols h slots) (symbolAt slots h ∷ []) (omega (arith, symbols-length h slots)))
+        ∙ of-append (drop low (symbols h slots)) (symbolAt slots h ∷ []))
+      ∙ reverse-append (ofTable table (drop low (symbols h slots))) (ofTable table (symbolAt slots h ∷ []))
+      ∙ go (eqb (getD slots (h * 3) 0) table)
+    where
+      go : (b : Bool) → reverse (elim b [ true ↦ symbolAt slots h ∷ [] | false ↦ [] ]) ++ listed h ≡ pick b (symbolAt slots h ∷ listed h) (listed h)
+      go true = refl
+      go false = refl
+
+  -- There is none exactly if the list is empty; else the list begins with the latest and goes on with the list below it.
+  pub data Latest (h : ℕ) : ℕ → Type 0 where
+    none : listed h ≡ [] → Latest h 0
+    found : {k : ℕ} → low ≤ k → k < h → listed h ≡ symbolAt slots k ∷ listed k → Latest h (suc k)
+
+  passed-by : (h : ℕ) {n : ℕ} → listed (suc h) ≡ listed h → Latest h n → Latest (suc h) n
+  passed-by h e (none f) = none (e ∙ f)
+  passed-by h e (found l m f) = found l (omega (arith, m)) (e ∙ f)
+
+  pub latest-is : (h : ℕ) → Latest h (latestOf table low h slots)
+  unfolding latestOf
+  latest-is zero = none (below-floor 0 (omega arith))
+  latest-is (suc h) = go (ltb h low) refl (latest-is h)
+    where
+      this : low ≤ h → (b : Bool) → eqb (getD slots (h * 3) 0) table ≡ b → Latest h (latestOf table low h slots)
+          → Latest (suc h) (pick b (suc h) (latestOf table low h slots))
+      this l true e r = found l (omega arith) (listed-step h l ∙ ap (λ b. pick b (symbolAt slots h ∷ listed h) (listed h)) e)
+      this l false e r = passed-by h (listed-step h l ∙ ap (λ b. pick b (symbolAt slots h ∷ listed h) (listed h)) e) r
+
+      go : (b : Bool) → ltb h low ≡ b → Latest h (latestOf table low h slots)
+          → Latest (suc h) (pick b 0 (pick (eqb (getD slots (h * 3) 0) table) (suc h) (latestOf table low h slots)))
+      go true e r = none (below-floor (suc h) (ltb-true h low e))
+      go false e r = this (ltb-false h low e) (eqb (getD slots (h * 3) 0) table) refl r
