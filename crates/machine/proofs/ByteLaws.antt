@@ -9,7 +9,8 @@ use lib.Dec.{eqb}
 use lib.ListN.{length, take, drop, getD, length-take, length-drop}
 use lib.Seq.{drop-cons, length-take-le}
 use borrow.Author.Tests.{eq-eqb, ne-eqb}
-use Rattle.meaning.specs.Outcome.{_and_, same, begins}
+use Rattle.meaning.specs.Outcome.{_and_, same, begins, part}
+use Rattle.meaning.specs.Forward.{same-length}
 
 front : (l : List ℕ) (i m : ℕ) → i < length l → take (suc m) (drop i l) ≡ getD l i 0 ∷ take m (drop (suc i) l)
 front l i m h = ap (take (suc m)) (drop-cons l i 0 h)
@@ -76,3 +77,22 @@ module _ (input : List ℕ) (at : ℕ) (b : List ℕ) (j n : ℕ) (fits : j + n 
   begins-short l h =
       sym (rw count (shorter (take n (drop at input)) (take n (drop j b))
       (rw (count, length-take n (drop at input), length-drop at input) (omega arith))))
+
+-- ## Parts of the input
+
+module _ (x : List ℕ) where
+  part-long : (p q : ℕ) → q ≤ length x → length (part x p q) ≡ q - p
+  part-long p q h = length-take-le (q - p) (drop p x) (omega (arith, length-drop p x))
+
+  -- Parts of different lengths differ.
+  pub parts-differ : (p q i j : ℕ) → q ≤ length x → j ≤ length x → (j - i ≡ q - p → ⊥) → false ≡ same (part x p q) (part x i j)
+  parts-differ p q i j h k n = go (same (part x p q) (part x i j)) refl
+    where
+      go : (b : Bool) → same (part x p q) (part x i j) ≡ b → false ≡ b
+      go true e = absurd (n (sym (part-long i j k) ∙ sym (same-length (part x p q) (part x i j) e) ∙ part-long p q h))
+      go false e = refl
+
+  -- Parts of one length, compared over it.
+  pub parts-same : (p q i j : ℕ) {r : Bool} → j - i ≡ q - p → r ≡ same (take (q - p) (drop p x)) (take (q - p) (drop i x))
+      → r ≡ same (part x p q) (part x i j)
+  parts-same p q i j e h = h ∙ ap (λ n. same (part x p q) (take n (drop i x))) (sym e)

@@ -35,7 +35,7 @@ module _ (table low : ℕ) (slots : List ℕ) where
   unfolding symbols
   listed-step h l =
       ap reverse (ap (ofTable table) (drop-append-le low (symbols h slots) (symbolAt slots h ∷ []) (omega (arith, symbols-length h slots)))
-        ∙ of-append (drop low (symbols h slots)) (symbolAt slots h ∷ []))
+      ∙ of-append (drop low (symbols h slots)) (symbolAt slots h ∷ []))
       ∙ reverse-append (ofTable table (drop low (symbols h slots))) (ofTable table (symbolAt slots h ∷ []))
       ∙ go (eqb (getD slots (h * 3) 0) table)
     where

@@ -1,5 +1,5 @@
 -- The cases marked P of 01, "Harbour cases", from image bytes: one table under one theorem. Each row is an image, an input, B, D and R, and what the
--- call gives: kind, consumed, steps, depth, symbols, place, and the slots. The buffer begins as 3R + 1 sevens, so the last number
+-- call gives: kind, consumed, steps, depth, symbols, place, and the slots up to the zeros. `A=AB` with Is and with Match is one case of 01 and two rows. The buffer begins as 3R + 1 sevens, so the last number
 -- shows that nothing past 3R is written. What 01 leaves out of a row is worked out from the rules.
 use Prim.Native.Nat.{ℕ, _+_, _-_, _*_}
 use mathlib.Core.Path.{_≡_, refl}
@@ -15,10 +15,10 @@ pub record Case : Type 0 where
   pub D : ℕ
   pub R : ℕ
   pub answer : List ℕ
-  pub symbols : List ℕ
+  pub slots : List ℕ
 
-abbrev row : (image input : List ℕ) (B D R : ℕ) (answer symbols : List ℕ) → Case
-row image input B D R answer symbols = record { image = image; input = input; B = B; D = D; R = R; answer = answer; symbols = symbols }
+abbrev row : (image input : List ℕ) (B D R : ℕ) (answer slots : List ℕ) → Case
+row image input B D R answer slots = record { image = image; input = input; B = B; D = D; R = R; answer = answer; slots = slots }
 
 -- Image H with Match in the place of Is.
 abbrev harbourMatch : List ℕ
@@ -75,9 +75,46 @@ abbrev gives : Case → List ℕ
 gives c = told (recognise (c .image) (c .input) (c .B) (c .D) (c .R) (replicate (3 * c .R + 1) 7))
 
 abbrev expected : Case → List ℕ
-expected c = c .answer ++ (c .symbols ++ (replicate (3 * c .R - length (c .symbols)) 0 ++ (7 ∷ [])))
+expected c = c .answer ++ (c .slots ++ (replicate (3 * c .R - length (c .slots)) 0 ++ (7 ∷ [])))
 
 -- THE P CASES.
 pub harbour-cases : map gives harbourCases ≡ map expected harbourCases
 unfolding recognise
 harbour-cases = refl
+
+-- ## The entry checks at the ends of their ranges
+
+-- Image H on the empty input with B, D, R and a number of sevens for slots; then the kind, and how many sevens are left.
+record Entry : Type 0 where
+  pub B : ℕ
+  pub D : ℕ
+  pub R : ℕ
+  pub sevens : ℕ
+  pub kind : ℕ
+  pub rest : ℕ
+
+abbrev entry : (B D R sevens kind rest : ℕ) → Entry
+entry B D R sevens kind rest = record { B = B; D = D; R = R; sevens = sevens; kind = kind; rest = rest }
+
+abbrev entries : List Entry
+entries =
+    entry 1000000 256 256 768 99 0
+    ∷ entry 4 4 0 0 99 0
+    ∷ entry 1 1 1 4 12 1
+    ∷ entry 0 4 0 0 10 0
+    ∷ entry 1000001 4 0 0 10 0
+    ∷ entry 4 0 0 0 10 0
+    ∷ entry 4 257 0 0 10 0
+    ∷ entry 4 4 257 771 10 771
+    ∷ entry 4 4 257 0 10 0
+    ∷ entry 4 4 1 3 99 0
+    ∷ entry 4 4 1 2 11 2
+    ∷ entry 4 4 256 767 11 767
+    ∷ []
+
+abbrev entered : Entry → List ℕ
+entered e = let c = recognise harbour [] (e .B) (e .D) (e .R) (replicate (e .sevens) 7) in c .answer .kind ∷ c .slots
+
+pub entry-cases : map entered entries ≡ map (λ e. e .kind ∷ (replicate (e .sevens - e .rest) 0 ++ replicate (e .rest) 7)) entries
+unfolding recognise
+entry-cases = refl

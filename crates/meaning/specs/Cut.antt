@@ -15,7 +15,7 @@ use Rattle.meaning.specs.Limits.{Within}
 module _ (g : Grammar) (x : List ℕ) (r : ℕ) where
   -- `Cut d b v e p σ n s c`: with depth d and b steps left and room r, the run of e from p and σ is refused with number n at place s,
   -- when c has been charged. "Where a step inside refuses, the whole call refuses at once."
-  pub data Cut : ℕ → ℕ → Env → Expr → ℕ → State → ℕ → ℕ → Cost → Type 0 where
+  pub data Cut : (d b : ℕ) → Env → Expr → (p : ℕ) → State → (number place : ℕ) → Cost → Type 0 where
     -- "On entry the step limit is looked at first, then the depth limit; a refused entry is not charged." A later round of a Star
     -- looks at the step limit too, and is stopped by the first of these.
     no-steps : {d : ℕ} {v : Env} {e : Expr} {p : ℕ} {σ : State} → Cut d 0 v e p σ 12 p nothing
@@ -23,7 +23,7 @@ module _ (g : Grammar) (x : List ℕ) (r : ℕ) where
     -- "Room is looked at when a symbol would be stored, after its pattern's own were dropped."
     no-room : {d b : ℕ} {v : Env} {t p q : ℕ} {σ τ : State} {c : Cost}
         → Derives g x v (named g t) p σ (pass q τ) c → Within c d b r → r ≤ length σ → Cut (suc d) (suc b) v (Def t) p σ 14 p (enter c)
-    -- "A round that passes and consumes nothing is refused".
+    -- "A round that passes and consumes nothing is refused": it ends where it began (that it never ends before is `forward`).
     empty-round : {d b : ℕ} {v : Env} {a p q : ℕ} {σ τ : State} {c : Cost}
         → Derives g x v (node g a) p σ (pass q τ) c → Within c d b r → q ≤ p → Cut (suc d) (suc b) v (Star a) p σ 15 p (enter c)
     -- A premise that is stopped, after premises that came to their ends.

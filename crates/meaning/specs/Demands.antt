@@ -1,5 +1,4 @@
--- The demands, stated over derivations, and proved of `recognise`. Demand 1 is that `recognise` is a function of image, input, limits and
--- slots: it gives one answer and one list of slots for each.
+-- The demands, stated over derivations, and proved of `recognise`.
 use Prim.Native.Nat.{ℕ, zero, suc, _+_, _-_, _*_, _≤_, _<_}
 use mathlib.Core.Path.{_≡_, refl, ap, _∙_, sym}
 use mathlib.Core.Bool.{Bool, true, false}
@@ -8,10 +7,12 @@ use mathlib.Core.List.{List, [], _∷_, _++_}
 use native.Mathlib.Omega.{arith}
 use lib.Dec.{leb, ltb}
 use lib.ListN.{length, drop, replicate}
-use borrow.Author.Tests.{le-leb, le-ltb, lt-ltb}
+use borrow.Author.Tests.{le-leb, leb-true, le-ltb, lt-ltb, ltb-true, ltb-false}
 use Rattle.grammar.specs.Grammar.{Grammar, node}
+use Rattle.grammar.specs.Sound.{Bytes}
 use Rattle.image.specs.Reading.{pick}
-use Rattle.image.specs.Image.{good, refused, readImage}
+use Rattle.image.specs.Image.{Checked, good, refused, readImage}
+use Rattle.image.specs.RoundTrip as i
 use Rattle.meaning.specs.State.{State, outset}
 use Rattle.meaning.specs.Outcome.{Outcome, pass, fail, _and_, passIf, swap, restored, closed, matched, compared}
 use Rattle.meaning.specs.Cost.{Cost}
@@ -21,24 +22,28 @@ use Rattle.meaning.specs.Cut.{Cut}
 use Rattle.meaning.specs.Kept.{kept}
 use Rattle.meaning.specs.Steps.{used, spent}
 use Rattle.meaning.specs.Run.{Result, ran, refused as stopped, rounds, run}
-use Rattle.meaning.specs.Recognise.{Answer, Called, answerOf, flat, filled, slotsAfter, refusal, fromStart, within, allowed, onGood, onImage, recognise}
+use Rattle.meaning.specs.Recognise.{Answer, Called, answerOf, flat, filled, slotsAfter, refusal, fromStart, between, allowed, onGood, onImage, recognise}
 use Rattle.meaning.specs.Complete.{complete, cut-complete}
-use Rattle.meaning.specs.Exact.{exact, raised, stop-number}
-use Rattle.meaning.specs.Exact as e
+use Rattle.meaning.specs.Exact.{exact, cut-exactly, raised, stop-number}
+use Rattle.meaning.specs.Unique.{true≢false}
 use Rattle.meaning.specs.Counted.{counted, spent-counted}
 use Rattle.meaning.specs.Remain.{remain, ends-eq}
 use Rattle.meaning.specs.Room.{room-enough, of-pass}
 use Rattle.meaning.specs.SlotLaws.{past-same, filled-length}
 
--- "Once the entry checks (1 to 11) pass": the image is g's, and input, limits and slots are within their ranges.
-pub record Entered (image : List ℕ) (g : Grammar) (input : List ℕ) (B D R : ℕ) (slots : List ℕ) : Type 0 where
-  pub image-good : readImage image ≡ good g
-  pub input-short : length input ≤ 65535
+-- "Limits: steps B 1 to 1,000,000; depth D 1 to 256; room R 0 to 256."
+pub record Ranges (B D R : ℕ) : Type 0 where
   pub some-steps : 1 ≤ B
   pub few-steps : B ≤ 1000000
   pub some-depth : 1 ≤ D
   pub small-depth : D ≤ 256
   pub small-room : R ≤ 256
+
+-- "Once the entry checks (1 to 11) pass": the image is g's, and input, limits and slots are within their ranges.
+pub record Entered (image : List ℕ) (g : Grammar) (input : List ℕ) (B D R : ℕ) (slots : List ℕ) : Type 0 where
+  pub image-good : readImage image ≡ good g
+  pub input-short : length input ≤ 65535
+  pub ranges : Ranges B D R
   pub slots-enough : 3 * R ≤ length slots
 
 -- The derivations that the demands speak of: from the start node, at place 0, every condition true, no symbol held.
@@ -75,7 +80,30 @@ module _ (g : Grammar) (x : List ℕ) (B D R : ℕ) where
     pub symbols : (n : ℕ) (τ : State) (c : Cost) (E : Recognises g x (pass n τ) c) → Within c D B R
         → (a .symbols ≡ length (kept g x E)) × (after ≡ filled R (kept g x E) before)
 
--- ## Both hold of the machine's answer
+  -- Every field and every slot of a call, by the derivation or by the run that is cut short. "Accepted: place 0. Failed: consumed, symbols
+  -- and place 0. Refusals 12 to 15: consumed and symbols 0, steps and depth as far as charged."
+  pub record Fixed (before : List ℕ) (k : Called) : Type 0 where
+    pub accepted : (n : ℕ) (τ : State) (c : Cost) (E : Recognises g x (pass n τ) c) → Within c D B R → k ≡ record {
+      answer = record {
+        kind = 0;
+        consumed = n;
+        steps = used g x E;
+        depth = c .depth;
+        symbols = length (kept g x E);
+        place = 0;
+      };
+      slots = filled R (kept g x E) before;
+    }
+    pub failed : (c : Cost) (E : Recognises g x fail c) → Within c D B R → k ≡ record {
+      answer = record { kind = 99; consumed = 0; steps = used g x E; depth = c .depth; symbols = 0; place = 0 };
+      slots = filled R [] before;
+    }
+    pub cut-short : (n s : ℕ) (c : Cost) (K : Stops n s c) → k ≡ record {
+      answer = record { kind = n; consumed = 0; steps = spent g x K; depth = c .depth; symbols = 0; place = s };
+      slots = filled R [] before;
+    }
+
+-- ## They hold of the machine's answer
 
 module _ (g : Grammar) (x : List ℕ) (B D R : ℕ) where
   found : {o : Outcome} {c : Cost} → Recognises g x o c → Within c D B R → fromStart g x B D R ≡ ran o c
@@ -85,7 +113,7 @@ module _ (g : Grammar) (x : List ℕ) (B D R : ℕ) where
   exactly {o} {c} h = exact g x outset (node g (g .start)) 0 [] R D B o c .0 h
 
   number-of : {n s : ℕ} {c : Cost} → fromStart g x B D R ≡ stopped n s c → (12 ≤ n) × (n ≤ 15)
-  number-of {n} {s} {c} h = stop-number (e.stopped g x outset (node g (g .start)) 0 [] R D B n s c .0 h)
+  number-of {n} {s} {c} h = stop-number (cut-exactly g x outset (node g (g .start)) 0 [] R D B n s c .0 h)
 
   machine-2 : Demand2 g x B D R (answerOf (fromStart g x B D R))
   machine-2 = record {
@@ -143,31 +171,83 @@ module _ (g : Grammar) (x : List ℕ) (B D R : ℕ) where
         );
   }
 
+  abbrev called : List ℕ → Result → Called
+  called slots r = record { answer = answerOf r; slots = slotsAfter R r slots }
+
+  machine-fixed : (slots : List ℕ) → Fixed g x B D R slots (called slots (fromStart g x B D R))
+  machine-fixed slots = record {
+    accepted = λ n τ c E w.
+        let same : τ ≡ kept g x E = ends-eq g x (remain g x E) in
+        ap (called slots) (found E w) ∙ rw (counted g x E, sym same);
+    failed = λ c E w. ap (called slots) (found E w) ∙ rw (counted g x E);
+    cut-short = λ n s c K. ap (called slots) (cut-complete g x R K) ∙ rw (spent-counted g x K);
+  }
+
+  -- TWO CALLS THAT ARE PERMITTED ARE EQUAL, in every field and every slot.
+  pub permitted-once : (before : List ℕ) (k k′ : Called) → Fixed g x B D R before k → Fixed g x B D R before k′ → k ≡ k′
+  permitted-once before k k′ F F′ = go (fromStart g x B D R) refl
+    where
+      go : (r : Result) → fromStart g x B D R ≡ r → k ≡ k′
+      go (ran (pass n τ) c) h = let s = exactly h in F .accepted n τ c (s .0) (s .1) ∙ sym (F′ .accepted n τ c (s .0) (s .1))
+      go (ran fail c) h = let s = exactly h in F .failed c (s .0) (s .1) ∙ sym (F′ .failed c (s .0) (s .1))
+      go (stopped n s c) h =
+          let K = cut-exactly g x outset (node g (g .start)) 0 [] R D B n s c .0 h in F .cut-short n s c K ∙ sym (F′ .cut-short n s c K)
+
 -- ## And of recognise
 
-module _ {image : List ℕ} {g : Grammar} {x : List ℕ} {B D R : ℕ} {slots : List ℕ} (E : Entered image g x B D R slots) where
-  ranges : allowed B D R ≡ true
-  ranges =
-      rw (
-        le-leb 1 B (E .some-steps),
-        le-leb B 1000000 (E .few-steps),
-        le-leb 1 D (E .some-depth),
-        le-leb D 256 (E .small-depth),
-        le-leb 0 R (omega arith),
-        le-leb R 256 (E .small-room),
-      )
+both : (a b : Bool) → (a and b) ≡ true → (a ≡ true) × (b ≡ true)
+both true b e = (refl, e)
+both false b e = let z : _≡_ {A = ℕ} 0 1 = cc in absurd (omega arith)
 
+-- The test of the limits is their ranges.
+in-range : {B D R : ℕ} → Ranges B D R → allowed B D R ≡ true
+in-range {B} {D} {R} h =
+    rw (
+      le-leb 1 B (h .some-steps),
+      le-leb B 1000000 (h .few-steps),
+      le-leb 1 D (h .some-depth),
+      le-leb D 256 (h .small-depth),
+      le-leb 0 R (omega arith),
+      le-leb R 256 (h .small-room),
+    )
+
+of-range : {B D R : ℕ} → allowed B D R ≡ true → Ranges B D R
+of-range {B} {D} {R} h =
+    let s = both (between 1 1000000 B) (between 1 256 D and between 0 256 R) h in
+    let t = both (between 1 256 D) (between 0 256 R) (s .1) in
+    let b = both (leb 1 B) (leb B 1000000) (s .0) in
+    let d = both (leb 1 D) (leb D 256) (t .0) in
+    let r = both (leb 0 R) (leb R 256) (t .1) in
+    record {
+      some-steps = leb-true 1 B (b .0);
+      few-steps = leb-true B 1000000 (b .1);
+      some-depth = leb-true 1 D (d .0);
+      small-depth = leb-true D 256 (d .1);
+      small-room = leb-true R 256 (r .1);
+    }
+
+out-of-range : (B D R : ℕ) → ¬ (Ranges B D R) → allowed B D R ≡ false
+out-of-range B D R h = go (allowed B D R) refl
+  where
+    go : (b : Bool) → allowed B D R ≡ b → b ≡ false
+    go true e = absurd (h (of-range e))
+    go false e = refl
+
+module _ {image : List ℕ} {g : Grammar} {x : List ℕ} {B D R : ℕ} {slots : List ℕ} (E : Entered image g x B D R slots) where
   -- Once the entry checks pass, the answer and the slots are the run's.
   pub runs :
       recognise image x B D R slots ≡ record { answer = answerOf (fromStart g x B D R); slots = slotsAfter R (fromStart g x B D R) slots }
   unfolding recognise
-  runs = rw (E .image-good) (rw (le-ltb 65535 (length x) (E .input-short), ranges, le-ltb (length slots) (3 * R) (E .slots-enough)))
+  runs = rw (E .image-good) (rw (le-ltb 65535 (length x) (E .input-short), in-range (E .ranges), le-ltb (length slots) (3 * R) (E .slots-enough)))
 
   pub demand-2 : Demand2 g x B D R (recognise image x B D R slots .answer)
   demand-2 = rw runs (machine-2 g x B D R)
 
   pub demand-3 : Demand3 g x B D R (recognise image x B D R slots .answer) slots (recognise image x B D R slots .slots)
   demand-3 = rw runs (machine-3 g x B D R slots)
+
+  pub fixed : Fixed g x B D R slots (recognise image x B D R slots)
+  fixed = rw runs (machine-fixed g x B D R slots)
 
   -- ## What a caller may rely on
 
@@ -197,7 +277,7 @@ pub raised-limits : {image : List ℕ} {g : Grammar} {x : List ℕ} {B D R B′ 
     → Entered image g x B D R slots → Entered image g x B′ D′ R′ slots′ → B ≤ B′ → D ≤ D′ → R ≤ R′
     → (recognise image x B D R slots .answer .kind ≡ 0) ⊎ (recognise image x B D R slots .answer .kind ≡ 99)
     → (recognise image x B′ D′ R′ slots′ .answer ≡ recognise image x B D R slots .answer)
-    × (τ : State) × (recognise image x B D R slots .slots ≡ filled R τ slots) ×
+    × (τ : State) × (length τ ≡ recognise image x B D R slots .answer .symbols) × (recognise image x B D R slots .slots ≡ filled R τ slots) ×
     (recognise image x B′ D′ R′ slots′ .slots ≡ filled R′ τ slots′)
 raised-limits {image} {g} {x} {B} {D} {R} {B′} {D′} {R′} {slots} {slots′} E E′ hB hD hR ended =
     rw (runs E, runs E′) (go (fromStart g x B D R) refl (rw (runs E) at ended))
@@ -207,12 +287,12 @@ raised-limits {image} {g} {x} {B} {D} {R} {B′} {D′} {R′} {slots} {slots′
 
     go : (r : Result) → fromStart g x B D R ≡ r → (answerOf (fromStart g x B D R) .kind ≡ 0) ⊎ (answerOf (fromStart g x B D R) .kind ≡ 99)
         → (answerOf (fromStart g x B′ D′ R′) ≡ answerOf (fromStart g x B D R))
-        × (τ : State) × (slotsAfter R (fromStart g x B D R) slots ≡ filled R τ slots) ×
+        × (τ : State) × (length τ ≡ answerOf (fromStart g x B D R) .symbols) × (slotsAfter R (fromStart g x B D R) slots ≡ filled R τ slots) ×
         (slotsAfter R′ (fromStart g x B′ D′ R′) slots′ ≡ filled R′ τ slots′)
     go (ran (pass n τ) c) h ended =
-        (ap answerOf (same h ∙ sym h), τ, ap (λ r. slotsAfter R r slots) h, ap (λ r. slotsAfter R′ r slots′) (same h))
+        (ap answerOf (same h ∙ sym h), τ, sym (ap (λ r. answerOf r .symbols) h), ap (λ r. slotsAfter R r slots) h, ap (λ r. slotsAfter R′ r slots′) (same h))
     go (ran fail c) h ended =
-        (ap answerOf (same h ∙ sym h), [], ap (λ r. slotsAfter R r slots) h, ap (λ r. slotsAfter R′ r slots′) (same h))
+        (ap answerOf (same h ∙ sym h), [], sym (ap (λ r. answerOf r .symbols) h), ap (λ r. slotsAfter R r slots) h, ap (λ r. slotsAfter R′ r slots′) (same h))
     go (stopped n q c) h (inl k) =
         let l = number-of g x B D R h in let m : answerOf (fromStart g x B D R) .kind ≡ n = ap (λ r. answerOf r .kind) h in
         absurd (omega arith)
@@ -236,11 +316,64 @@ module _ (image : List ℕ) (g : Grammar) (x : List ℕ) (B D R : ℕ) (slots : 
   input-refused h = rw e (rw (lt-ltb 65535 (length x) h))
 
   -- 10: the limits, whatever the slots are.
-  pub limits-refused : length x ≤ 65535 → allowed B D R ≡ false → recognise image x B D R slots ≡ refusal 10 0 slots
+  pub limits-refused : length x ≤ 65535 → ¬ (Ranges B D R) → recognise image x B D R slots ≡ refusal 10 0 slots
   unfolding recognise
-  limits-refused h f = rw e (rw (le-ltb 65535 (length x) h, f))
+  limits-refused h f = rw e (rw (le-ltb 65535 (length x) h, out-of-range B D R f))
 
   -- 11: the slots.
-  pub slots-refused : length x ≤ 65535 → allowed B D R ≡ true → length slots < 3 * R → recognise image x B D R slots ≡ refusal 11 0 slots
+  pub slots-refused : length x ≤ 65535 → Ranges B D R → length slots < 3 * R → recognise image x B D R slots ≡ refusal 11 0 slots
   unfolding recognise
-  slots-refused h f l = rw e (rw (le-ltb 65535 (length x) h, f, lt-ltb (length slots) (3 * R) l))
+  slots-refused h f l = rw e (rw (le-ltb 65535 (length x) h, in-range f, lt-ltb (length slots) (3 * R) l))
+
+-- ## DEMAND 1
+
+-- Every image, input, limits and slots: either the entry checks pass, and then `fixed` settles the call; or one of 1 to 11 refuses, with
+-- all fields zero but number and place, and the slots untouched.
+pub answered : (image x : List ℕ) (B D R : ℕ) (slots : List ℕ) → Bytes image
+    → ((g : Grammar) × Entered image g x B D R slots)
+    ⊎ ((n place : ℕ) × (1 ≤ n) × (n ≤ 11) × (recognise image x B D R slots ≡ refusal n place slots))
+answered image x B D R slots bytes = read (readImage image) refl
+  where
+    Said : Type 0
+    Said = ((g : Grammar) × Entered image g x B D R slots) ⊎
+        ((n place : ℕ) × (1 ≤ n) × (n ≤ 11) × (recognise image x B D R slots ≡ refusal n place slots))
+
+    buffer : (g : Grammar) → readImage image ≡ good g → length x ≤ 65535 → Ranges B D R → (t : Bool) → ltb (length slots) (3 * R) ≡ t → Said
+    buffer g e h f true l = inr (11, 0, omega arith, omega arith, slots-refused image g x B D R slots e h f (ltb-true (length slots) (3 * R) l))
+    buffer g e h f false l =
+        inl (g, record { image-good = e; input-short = h; ranges = f; slots-enough = ltb-false (length slots) (3 * R) l })
+
+    limits : (g : Grammar) → readImage image ≡ good g → length x ≤ 65535 → (t : Bool) → allowed B D R ≡ t → Said
+    limits g e h true f = buffer g e h (of-range f) (ltb (length slots) (3 * R)) refl
+    limits g e h false f =
+        inr (10, 0, omega arith, omega arith, limits-refused image g x B D R slots e h (λ r. true≢false (sym (in-range r) ∙ f)))
+
+    given : (g : Grammar) → readImage image ≡ good g → (t : Bool) → ltb 65535 (length x) ≡ t → Said
+    given g e true l = inr (9, 0, omega arith, omega arith, input-refused image g x B D R slots e (ltb-true 65535 (length x) l))
+    given g e false l = limits g e (ltb-false 65535 (length x) l) (allowed B D R) refl
+
+    read : (k : Checked) → readImage image ≡ k → Said
+    read (good g) e = given g e (ltb 65535 (length x)) refl
+    read (refused n place) e =
+        let r = i.refusal image bytes n place e in
+        inr (n, place, r .least, omega (arith, r .most), image-refused image x B D R slots n place e)
+
+-- The kind is accepted, failed, or a number of the list.
+pub kinds : (image x : List ℕ) (B D R : ℕ) (slots : List ℕ) → Bytes image
+    → (recognise image x B D R slots .answer .kind ≡ 0) ⊎ (recognise image x B D R slots .answer .kind ≡ 99)
+    ⊎ ((1 ≤ recognise image x B D R slots .answer .kind) × (recognise image x B D R slots .answer .kind ≤ 15))
+kinds image x B D R slots bytes = go (answered image x B D R slots bytes)
+  where
+    Kind : ℕ → Type 0
+    Kind k = (k ≡ 0) ⊎ (k ≡ 99) ⊎ ((1 ≤ k) × (k ≤ 15))
+
+    ended : (g : Grammar) (r : Result) → fromStart g x B D R ≡ r → Kind (answerOf r .kind)
+    ended g (ran (pass n τ) c) h = inl refl
+    ended g (ran fail c) h = inr (inl refl)
+    ended g (stopped n s c) h = let l = number-of g x B D R h in inr (inr (omega (arith, l), l .1))
+
+    go : ((g : Grammar) × Entered image g x B D R slots)
+        ⊎ ((n place : ℕ) × (1 ≤ n) × (n ≤ 11) × (recognise image x B D R slots ≡ refusal n place slots))
+        → Kind (recognise image x B D R slots .answer .kind)
+    go (inl h) = rw (runs (h .1)) (ended (h .0) (fromStart (h .0) x B D R) refl)
+    go (inr h) = let l = h .2 in let m = h .3 in rw (h .4) (inr (inr (l, omega arith)))

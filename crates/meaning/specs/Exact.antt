@@ -1,4 +1,4 @@
--- The machine and the rules say the same. `exact`: it comes to an outcome exactly if a derivation within the limits does. `stopped`: it
+-- The machine and the rules say the same. `exact`: it comes to an outcome exactly if a derivation within the limits does. `cut-exactly`: it
 -- refuses exactly as the run that is cut short. `refused-exactly`: it refuses exactly if no derivation is within the limits.
 -- `raised`: raised limits alter no outcome. `at-most-one`: there is at most one outcome and cost.
 use Prim.Native.Nat.{ℕ, _≤_, max}
@@ -31,8 +31,8 @@ module _ (g : Grammar) (x : List ℕ) (v : Env) (e : Expr) (p : ℕ) (σ : State
     (λ h. complete g x r (h .0) d b (h .1)),
   )
 
-  pub stopped : (r d b n s : ℕ) (c : Cost) → (run g x r d b v e p σ ≡ refused n s c) ↔ Cut g x r d b v e p σ n s c
-  stopped r d b n s c = ((λ h. of-refused (rw h at (sound g x r d b v e p σ))), cut-complete g x r)
+  pub cut-exactly : (r d b n s : ℕ) (c : Cost) → (run g x r d b v e p σ ≡ refused n s c) ↔ Cut g x r d b v e p σ n s c
+  cut-exactly r d b n s c = ((λ h. of-refused (rw h at (sound g x r d b v e p σ))), cut-complete g x r)
 
   -- A derivation within the limits, whatever its outcome and cost.
   abbrev pub Derivable : (r d b : ℕ) → Type 0
@@ -49,7 +49,7 @@ module _ (g : Grammar) (x : List ℕ) (v : Env) (e : Expr) (p : ℕ) (σ : State
     where
       go : ¬ (Derivable r d b) → (s : Result) → run g x r d b v e p σ ≡ s → Stopped r d b
       go k (ran o c) h = let s = exact r d b o c .0 h in absurd (k (o, c, s .0, s .1))
-      go k (refused n s c) h = (n, s, c, stopped r d b n s c .0 h)
+      go k (refused n s c) h = (n, s, c, cut-exactly r d b n s c .0 h)
 
   -- Raised limits.
   pub raised :

@@ -14,7 +14,7 @@ use Rattle.meaning.specs.Outcome.{Outcome, pass, fail, _and_, same, begi
 use Rattle.meaning.specs.Cost.{Cost}
 use Rattle.meaning.specs.Rules.{Derives, empty, byte, range, any, text, seq-first, seq-both, choice-first, choice-second, star-stop, star-more, not, call, def-fail, def-pass, match, is-none, is-some, isa-none, isa-some, exists, block, local, if, on}
 
-same-length : (a b : List ℕ) → same a b ≡ true → length a ≡ length b
+pub same-length : (a b : List ℕ) → same a b ≡ true → length a ≡ length b
 same-length [] [] e = refl
 same-length [] (b ∷ bs) e = let z : _≡_ {A = ℕ} 0 1 = cc in absurd (omega arith)
 same-length (a ∷ aa) [] e = let z : _≡_ {A = ℕ} 0 1 = cc in absurd (omega arith)
@@ -45,7 +45,7 @@ unfolding passIf
 ahead-if q σ true h = ahead (h refl .0) (h refl .1)
 ahead-if q σ false h = stuck
 
-ahead-pass : {p n q : ℕ} {τ : State} → Ahead p n (pass q τ) → (p ≤ q) × (q ≤ n)
+pub ahead-pass : {p n q : ℕ} {τ : State} → Ahead p n (pass q τ) → (p ≤ q) × (q ≤ n)
 ahead-pass (ahead h k) = (h, k)
 
 ahead-from : {p q n : ℕ} {τ : State} {o : Outcome} → Ahead p n (pass q τ) → Ahead q n o → Ahead p n o

@@ -19,6 +19,7 @@ pub mod Remain
 pub mod Forward
 pub mod Scopes
 pub mod Pilot
+pub mod Inside
 pub mod SlotLaws
 pub mod Room
 pub mod Demands

@@ -1,4 +1,4 @@
--- Limits. 01, "Steps, depth, room": "Limits: steps B 1 to 1,000,000; depth D 1 to 256; room R 0 to 256."
+-- A cost within limits. 01, "Steps, depth, room". (The ranges of the limits themselves are an entry check: `allowed`, `Ranges`.)
 use Prim.Native.Nat.{ℕ, _≤_}
 use Rattle.meaning.specs.Cost.{Cost}
 

@@ -29,11 +29,12 @@ same (a ∷ aa) (b ∷ bs) = eqb a b and same aa bs
 abbrev pub begins : (bytes rest : List ℕ) → Bool
 begins bytes rest = same (take (length bytes) rest) bytes
 
--- Whether a byte is left, and whether it is within a range.
+-- Whether there is one: a byte that is left, a symbol in a list.
 abbrev pub some : {A : Type 0} → List A → Bool
 some [] = false
 some (a ∷ aa) = true
 
+-- Whether a byte is left and within a range.
 abbrev pub inRange : (lo hi : ℕ) → List ℕ → Bool
 inRange lo hi [] = false
 inRange lo hi (b ∷ rest) = leb lo b and leb b hi
@@ -60,15 +61,18 @@ restored σ (pass q τ) = pass q σ
 restored σ fail = fail
 
 -- Block and Local: "puts back its own table's list", "Other tables keep what a stored". What was stored since is what stands
--- behind the symbols that were held on entering.
+-- behind the symbols that were held on entering, since a pass removes or changes none of those (`remain`).
 unfoldable pub closed : ℕ → State → Outcome → Outcome
 closed t σ (pass q τ) = pass q (σ ++ others t (drop (length σ) τ))
 closed t σ fail = fail
 
 module _ (x : List ℕ) where
-  -- The bytes of a symbol.
+  -- The bytes of the input between two places, and those of a symbol.
+  abbrev pub part : (p q : ℕ) → List ℕ
+  part p q = take (q - p) (drop p x)
+
   abbrev pub text : Symbol → List ℕ
-  text s = take (s .to - s .from) (drop (s .from) x)
+  text s = part (s .from) (s .to)
 
   -- Match: "consumes the latest symbol's bytes exactly; fails on an empty list".
   unfoldable pub matched : ℕ → State → (list : State) → Outcome
@@ -82,5 +86,5 @@ module _ (x : List ℕ) where
 
   -- Is and Isa: "drops what that stored, and passes if the consumed bytes equal" a symbol of the list.
   unfoldable pub compared : ℕ → State → (list : State) → Outcome → Outcome
-  compared p σ list (pass q τ) = passIf (among (take (q - p) (drop p x)) list) q σ
+  compared p σ list (pass q τ) = passIf (among (part p q) list) q σ
   compared p σ list fail = fail

@@ -60,12 +60,12 @@ refusal number place slots = record {
 abbrev pub fromStart : Grammar → List ℕ → (B D R : ℕ) → Result
 fromStart g input B D R = run g input R D B outset (node g (g .start)) 0 []
 
-abbrev pub within : (low high n : ℕ) → Bool
-within low high n = leb low n and leb n high
+abbrev pub between : (low high n : ℕ) → Bool
+between low high n = leb low n and leb n high
 
 -- "steps B 1 to 1,000,000; depth D 1 to 256; room R 0 to 256"
 abbrev pub allowed : (B D R : ℕ) → Bool
-allowed B D R = within 1 1000000 B and (within 1 256 D and within 0 256 R)
+allowed B D R = between 1 1000000 B and (between 1 256 D and between 0 256 R)
 
 -- The entry checks 9, 10 and 11 in their order, and then the run.
 abbrev pub onGood : Grammar → (input : List ℕ) (B D R : ℕ) (slots : List ℕ) → Called

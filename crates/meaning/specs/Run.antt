@@ -40,15 +40,16 @@ onFail k (pass q τ) c = ran (pass q τ) c
 onFail k fail c = k c
 
 -- A round that passed is refused if it consumed nothing, else the rest of the rounds follow; a round that failed ends the Star.
-abbrev pub unlessEmpty : Bool → ℕ → Cost → (Unit {0} → Result) → Result
-unlessEmpty true p c k = k tt
-unlessEmpty false p c k = refused 15 p c
+abbrev pub ifConsumed : Bool → ℕ → Cost → (Unit {0} → Result) → Result
+ifConsumed true p c k = k tt
+ifConsumed false p c k = refused 15 p c
 
 abbrev pub round : ℕ → State → (ℕ → State → Cost → Result) → Outcome → Cost → Result
-round p σ k (pass q τ) c = unlessEmpty (ltb p q) p c (λ u. k q τ c)
+round p σ k (pass q τ) c = ifConsumed (ltb p q) p c (λ u. k q τ c)
 round p σ k fail c = ran (pass p σ) c
 
--- The rounds of a Star with b steps left; `f b p σ` runs its body. The first number is at least b, and only there to count down.
+-- The rounds of a Star with b steps left; `f b p σ` runs its body. The first number is at least b, and only there to count down: it
+-- comes to 0 where b does, so the first line never speaks of a step that was left.
 unfoldable pub rounds : (ℕ → ℕ → State → Result) → ℕ → ℕ → ℕ → State → Result
 rounds f zero b p σ = refused 12 p nothing
 rounds f (suc k) zero p σ = refused 12 p nothing

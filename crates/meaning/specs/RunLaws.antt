@@ -9,7 +9,7 @@ use Rattle.grammar.specs.Grammar.{Grammar, node}
 use Rattle.meaning.specs.State.{State, Env}
 use Rattle.meaning.specs.Outcome.{pass, fail}
 use Rattle.meaning.specs.Cost.{Cost, nothing, enter}
-use Rattle.meaning.specs.Run.{Result, ran, refused, next, charge, after, unlessEmpty, round, rounds, entered, run}
+use Rattle.meaning.specs.Run.{Result, ran, refused, next, charge, after, ifConsumed, round, rounds, entered, run}
 
 -- Of a Star's rounds the first number does not matter, if it is at least the steps left.
 fuel : (f : ℕ → ℕ → State → Result) (k j b : ℕ) → b ≤ k → b ≤ j → (p : ℕ) (σ : State) → rounds f k b p σ ≡ rounds f j b p σ
@@ -26,7 +26,7 @@ fuel f (suc k) (suc j) (suc b) h h′ p σ = go (λ i h h′ q τ. fuel f k j i 
         → next (charge r) (round p σ (λ q τ c. after c (rounds f k (suc b - c .steps) q τ)))
         ≡ next (charge r) (round p σ (λ q τ c. after c (rounds f j (suc b - c .steps) q τ)))
     go ih (ran (pass q τ) c) =
-        ap (λ r. unlessEmpty (ltb p q) p (enter c) (λ u. after (enter c) r)) (ih (suc b - suc (c .steps)) (omega arith) (omega arith) q τ)
+        ap (λ r. ifConsumed (ltb p q) p (enter c) (λ u. after (enter c) r)) (ih (suc b - suc (c .steps)) (omega arith) (omega arith) q τ)
     go ih (ran fail c) = refl
     go ih (refused n q c) = refl
 
@@ -39,7 +39,7 @@ star-law f (suc b) h p σ = go (f b p σ)
     go : (r : Result) → next (charge r) (round p σ (λ q τ c. after c (rounds f b (suc b - c .steps) q τ)))
         ≡ next (charge r) (round p σ (λ q τ c. after c (rounds f (suc b - c .steps) (suc b - c .steps) q τ)))
     go (ran (pass q τ) c) =
-        ap (λ r. unlessEmpty (ltb p q) p (enter c) (λ u. after (enter c) r))
+        ap (λ r. ifConsumed (ltb p q) p (enter c) (λ u. after (enter c) r))
         (fuel f b (suc b - suc (c .steps)) (suc b - suc (c .steps)) (omega arith) (omega arith) q τ)
     go (ran fail c) = refl
     go (refused n q c) = refl

@@ -1,21 +1,22 @@
 -- What 01, "Meaning", says in words of scopes, as laws: "Block runs a and then puts back its own table's list. Local does so too, with that
--- list empty at the start. Other tables keep what a stored." They hold where no floor lies above the symbols held, which is so at the
--- start and is kept by every derivation.
+-- list empty at the start. Other tables keep what a stored." They hold where no floor lies above the symbols held and every table has a
+-- floor, which is so at the start and is kept by every derivation. And of condition switches: "on leaving On all lists are as they were on
+-- entering".
 use Prim.Native.Nat.{ℕ, zero, suc, _≤_, _<_}
-use mathlib.Core.Path.{_≡_, refl, ap, _∙_, sym}
+use mathlib.Core.Path.{_≡_, refl, ap, _∙_, sym, subst}
 use mathlib.Core.Bool.{Bool, true, false}
 use mathlib.Core.List.{List, [], _∷_, _++_, append-nil, append-assoc, reverse}
 use native.Mathlib.Omega.{arith}
 use lib.Dec.{eqb}
-use lib.ListN.{length, drop, getD, set, length-append, drop-of-length-le}
+use lib.ListN.{length, drop, getD, set, length-append, length-set, drop-of-length-le}
 use lib.Seq.{drop-append-le, drop-append-seam, getD-set-same, getD-set-other}
 use borrow.Author.Tests.{eq-eqb, ne-eqb, eqb-true, eqb-false}
-use Rattle.grammar.specs.Expr.{Expr}
+use Rattle.grammar.specs.Expr.{Expr, Block, Local, On}
 use Rattle.grammar.specs.Grammar.{Grammar, node}
 use Rattle.meaning.specs.State.{Symbol, State, Env, outset, ofTable, others, visible, hide, switch}
-use Rattle.meaning.specs.Outcome.{Outcome, pass, closed}
+use Rattle.meaning.specs.Outcome.{Outcome, pass, fail, closed, restored}
 use Rattle.meaning.specs.Cost.{Cost}
-use Rattle.meaning.specs.Rules.{Derives}
+use Rattle.meaning.specs.Rules.{Derives, block, local, on}
 use Rattle.meaning.specs.Kept.{kept}
 use Rattle.meaning.specs.Remain.{remain, ends-eq}
 
@@ -100,7 +101,72 @@ module _ (g : Grammar) (x : List ℕ) where
     pub floored-after : Floored v τ
     floored-after t = omega (arith, f t, simp length-append at (ap length (ends-eq g x (remain g x D))))
 
--- Nor where a Local or an On begins, nor at the start.
+  -- ## Block, Local, On
+
+  -- What a scope of table t, whose body ran under w, leaves: its own table's list as it was, every other list as the body left it.
+  abbrev pub Leaves : (v w : Env) (t a p q : ℕ) (σ υ : State) → Type 0
+  Leaves v w t a p q σ υ =
+      (visible v t υ ≡ visible v t σ)
+      × (τ : State) × (c : Cost) × Derives g x w (node g a) p σ (pass q τ) c
+      × ((u : ℕ) → (u ≡ t → ⊥) → visible v u υ ≡ visible v u τ)
+
+  leaves : (v w : Env) (t a p q : ℕ) (σ υ : State) → Floored v σ → (o : Outcome) (c : Cost)
+      → Derives g x w (node g a) p σ o c → closed t σ o ≡ pass q υ → Leaves v w t a p q σ υ
+  unfolding closed
+  leaves v w t a p q σ υ f (pass r τ) c D e =
+      let end : r ≡ q = cc in
+      let state : left t σ τ ≡ υ = cc in (
+        ap (visible v t) (sym state) ∙ own-list-back v D f t,
+        τ,
+        c,
+        subst (λ r. Derives g x w (node g a) p σ (pass r τ) c) end D,
+        λ u n. ap (visible v u) (sym state) ∙ other-lists-stay v D f t u n,
+      )
+  leaves v w t a p q σ υ f fail c D e = let z : _≡_ {A = ℕ} 0 1 = cc in absurd (omega arith)
+
+  -- "Block runs a and then puts back its own table's list. Other tables keep what a stored."
+  pub block-leaves : {v : Env} {t a p q : ℕ} {σ υ : State} {c : Cost}
+      → Derives g x v (Block t a) p σ (pass q υ) c → Floored v σ → Leaves v v t a p q σ υ
+  block-leaves {v} {t} {a} {p} {q} {σ} {υ} D f = go D refl
+    where
+      go : {o : Outcome} {c : Cost} → Derives g x v (Block t a) p σ o c → o ≡ pass q υ → Leaves v v t a p q σ υ
+      go (block {o = o} {c = c} D) e = leaves v v t a p q σ υ f o c D e
+
+  -- "Local does so too, with that list empty at the start."
+  pub local-leaves : {v : Env} {t a p q : ℕ} {σ υ : State} {c : Cost} → Derives g x v (Local t a) p σ (pass q υ) c → Floored v σ
+      → t < length (v .floors) → (visible (hide v t σ) t σ ≡ []) × Leaves v (hide v t σ) t a p q σ υ
+  local-leaves {v} {t} {a} {p} {q} {σ} {υ} D f h = (local-starts-empty v t σ h, go D refl)
+    where
+      go : {o : Outcome} {c : Cost} → Derives g x v (Local t a) p σ o c → o ≡ pass q υ → Leaves v (hide v t σ) t a p q σ υ
+      go (local {o = o} {c = c} D) e = leaves v (hide v t σ) t a p q σ υ f o c D e
+
+  -- "on leaving On all lists are as they were on entering."
+  pub on-leaves : {v : Env} {k a p q : ℕ} {w : Bool} {σ τ : State} {c : Cost} → Derives g x v (On k w a) p σ (pass q τ) c → τ ≡ σ
+  unfolding restored
+  on-leaves {v} {k} {a} {p} {q} {w} {σ} {τ} D = go D refl
+    where
+      same : (o : Outcome) → restored σ o ≡ pass q τ → τ ≡ σ
+      same (pass r υ) e = cc
+      same fail e = let z : _≡_ {A = ℕ} 0 1 = cc in absurd (omega arith)
+
+      go : {o : Outcome} {c : Cost} → Derives g x v (On k w a) p σ o c → o ≡ pass q τ → τ ≡ σ
+      go (on {o = o} D) e = same o e
+
+-- Inside an On its condition has the named truth, and every other the truth that it had.
+pub on-switches : (v : Env) (k : ℕ) (w : Bool) → k < length (v .truths) → getD (switch v k w .truths) k true ≡ w
+on-switches v k w h = getD-set-same (v .truths) k w true h
+
+pub on-leaves-others : (v : Env) (k j : ℕ) (w : Bool) → (j ≡ k → ⊥) → getD (switch v k w .truths) j true ≡ getD (v .truths) j true
+on-leaves-others v k j w n = getD-set-other (v .truths) k j w true n
+
+-- Every table keeps its floor and every condition its truth.
+pub hide-long : (v : Env) (t : ℕ) (σ : State) → length (hide v t σ .floors) ≡ length (v .floors)
+hide-long v t σ = length-set (v .floors) t (length σ)
+
+pub switch-long : (v : Env) (k : ℕ) (w : Bool) → length (switch v k w .truths) ≡ length (v .truths)
+switch-long v k w = length-set (v .truths) k w
+
+-- No floor lies above the symbols held where a Local or an On begins, nor at the start.
 pub floored-hide : (v : Env) (t : ℕ) (σ : State) → Floored v σ → Floored (hide v t σ) σ
 floored-hide v t σ f u = go (eqb u t) refl
   where

@@ -15,7 +15,7 @@ use Rattle.meaning.specs.Cost.{Cost, nothing, enter, _⊕_}
 use Rattle.meaning.specs.Rules.{Derives, named, empty, byte, range, any, text, seq-first, seq-both, choice-first, choice-second, star-stop, star-more, not, call, def-fail, def-pass, match, is-none, is-some, isa-none, isa-some, exists, block, local, if, on}
 use Rattle.meaning.specs.Limits.{Within}
 use Rattle.meaning.specs.Cut.{Cut, no-steps, no-depth, no-room, empty-round, cut-first, cut-second, cut-alternative, cut-other, cut-round, cut-later, cut-not, cut-call, cut-def, cut-is, cut-isa, cut-block, cut-local, cut-on}
-use Rattle.meaning.specs.Run.{Result, ran, refused, next, charge, after, onPass, onFail, unlessEmpty, round, rounds, stored, ifAny, entered, run}
+use Rattle.meaning.specs.Run.{Result, ran, refused, next, charge, after, onPass, onFail, ifConsumed, round, rounds, stored, ifAny, entered, run}
 
 -- Q holds of the outcome and the cost, or S of the refusal's number, place and cost.
 pub data All (Q : Outcome → Cost → Type 0) (S : ℕ → ℕ → Cost → Type 0) : Result → Type 0 where
@@ -95,7 +95,7 @@ module _ (g : Grammar) (x : List ℕ) (r : ℕ) where
       where
         more : {q : ℕ} {τ : State} {c : Cost} {s : Result} → Found d b v (node g a) p σ (pass q τ) c → (t : Bool) → ltb p q ≡ t
             → Answers (suc d) (suc b - suc (c .steps)) v (Star a) q τ s
-            → Answers (suc d) (suc b) v (Star a) p σ (unlessEmpty t p (enter c) (λ u. after (enter c) s))
+            → Answers (suc d) (suc b) v (Star a) p σ (ifConsumed t p (enter c) (λ u. after (enter c) s))
         more {q} {τ} {c} D true e E = after-all _ E
             (λ o c F. record { derived = star-more (D .derived) (ltb-true _ _ e) (F .derived); fits = omega arith })
             (λ n s e′ K. cut-later (D .derived) (D .fits) (ltb-true _ _ e) (rw (less b (c .steps)) at K))

@@ -18,7 +18,7 @@ abbrev pub State : Type 0
 State = List Symbol
 
 -- What holds while an expression runs, and is put back when it is left: the truth of each condition, and for each table how many
--- of the held symbols its innermost Local hides.
+-- symbols, of whatever tables, were held when its innermost Local was entered: those are hidden from it.
 pub record Env : Type 0 where
   pub truths : List Bool
   pub floors : List ℕ

@@ -1,5 +1,5 @@
--- The steps of a derivation, and of a run that is cut short, counted on themselves: one for each rule used, so one for each expression
--- entered and one for each round of a Star. A refused entry is not charged. They know nothing of costs.
+-- The steps of a derivation, and of a run that is cut short, counted on themselves: one for each expression entered, and one for
+-- each later round of a Star. A refused entry is not charged. They know nothing of costs.
 use Prim.Native.Nat.{ℕ, suc, _+_}
 use mathlib.Core.List.{List}
 use Rattle.grammar.specs.Expr.{Expr}

@@ -1,5 +1,5 @@
--- Trials of the definitions, computed: each kind passing and failing, each trap of 01, each refusal of a run, scopes within scopes, patterns that
--- store, limits at what a run needs and one below. The answers are worked out from 01.
+-- Trials of the definitions, computed: each kind passing, and failing if it can, each trap of 01, each refusal of a run, scopes within scopes,
+-- switches within switches, patterns that store, limits at what a run needs and one below. The answers are worked out from 01.
 use Prim.Native.Nat.{ℕ}
 use mathlib.Core.Path.{_≡_, refl}
 use mathlib.Core.Bool.{true, false}
@@ -22,7 +22,7 @@ record Trial : Type 0 where
 
 abbrev trial : List Expr → List ℕ → ℕ → List ℕ → ℕ → ℕ → ℕ → List ℕ → List ℕ → Trial
 trial nodes patterns start input B D R answer symbols = record {
-  grammar = record { conditions = 1; start = start; patterns = patterns; nodes = nodes };
+  grammar = record { conditions = 2; start = start; patterns = patterns; nodes = nodes };
   input = input;
   B = B;
   D = D;
@@ -100,7 +100,7 @@ trials =
     -- Match fails on an empty list
     ∷ trial (Range 97 122 ∷ Match 0 ∷ []) (0 ∷ []) 1 (97 ∷ []) 1000000 256 256 (99 ∷ 0 ∷ 1 ∷ 1 ∷ 0 ∷ 0 ∷ []) ([])
     -- Match of an empty symbol consumes nothing
-    ∷ trial (Range 97 122 ∷ Star 0 ∷ Def 0 ∷ Match 0 ∷ Not 0 ∷ Sequence 2 3 ∷ []) (1 ∷ []) 5 ([]) 1000000 256 256
+    ∷ trial (Range 97 122 ∷ Star 0 ∷ Def 0 ∷ Match 0 ∷ Sequence 2 3 ∷ []) (1 ∷ []) 4 ([]) 1000000 256 256
     (0 ∷ 0 ∷ 5 ∷ 4 ∷ 1 ∷ 0 ∷ []) (0 ∷ 0 ∷ 0 ∷ [])
     -- Is passes
     ∷ trial (Range 97 122 ∷ Star 0 ∷ Def 0 ∷ Byte 61 ∷ Is 0 ∷ Sequence 3 4 ∷ Sequence 2 5 ∷ []) (1 ∷ []) 6
@@ -164,8 +164,13 @@ trials =
     (0 ∷ 1 ∷ 5 ∷ 3 ∷ 1 ∷ 0 ∷ []) (1 ∷ 0 ∷ 1 ∷ [])
     -- what a pattern stores is dropped
     ∷ trial (Range 97 122 ∷ Def 1 ∷ Def 0 ∷ []) (1 ∷ 0 ∷ []) 2 (97 ∷ []) 1000000 256 256 (0 ∷ 1 ∷ 3 ∷ 3 ∷ 1 ∷ 0 ∷ []) (0 ∷ 0 ∷ 1 ∷ [])
+    -- and gives its room back before the name itself is stored
+    ∷ trial (Range 97 122 ∷ Def 1 ∷ Def 0 ∷ []) (1 ∷ 0 ∷ []) 2 (97 ∷ []) 100 9 1 (0 ∷ 1 ∷ 3 ∷ 3 ∷ 1 ∷ 0 ∷ []) (0 ∷ 0 ∷ 1 ∷ [])
     -- but takes room while it runs
-    ∷ trial (Range 97 122 ∷ Def 1 ∷ Def 0 ∷ []) (1 ∷ 0 ∷ []) 2 (97 ∷ []) 100 9 0 (14 ∷ 0 ∷ 3 ∷ 3 ∷ 0 ∷ 0 ∷ []) ([])
+    ∷ trial (Range 97 122 ∷ Def 1 ∷ Sequence 1 1 ∷ Def 0 ∷ []) (2 ∷ 0 ∷ []) 3 (97 ∷ 98 ∷ []) 100 9 1 (14 ∷ 0 ∷ 6 ∷ 4 ∷ 0 ∷ 1 ∷ []) ([])
+    -- just enough room for that
+    ∷ trial (Range 97 122 ∷ Def 1 ∷ Sequence 1 1 ∷ Def 0 ∷ []) (2 ∷ 0 ∷ []) 3 (97 ∷ 98 ∷ []) 100 9 2 (0 ∷ 2 ∷ 6 ∷ 4 ∷ 1 ∷ 0 ∷ [])
+    (0 ∷ 0 ∷ 2 ∷ [])
     -- two symbols, room for one
     ∷ trial (Range 97 122 ∷ Def 0 ∷ Sequence 1 1 ∷ []) (0 ∷ []) 2 (97 ∷ 98 ∷ []) 100 9 1 (14 ∷ 0 ∷ 5 ∷ 3 ∷ 0 ∷ 1 ∷ []) ([])
     -- room that a failure gives up is used again
@@ -198,6 +203,63 @@ trials =
     -- a first alternative's name is gone in the second
     ∷ trial (Range 97 122 ∷ Def 0 ∷ Byte 33 ∷ Sequence 1 2 ∷ Exists 0 ∷ Choice 3 4 ∷ []) (0 ∷ []) 5 (97 ∷ []) 1000000 256 256
     (99 ∷ 0 ∷ 6 ∷ 4 ∷ 0 ∷ 0 ∷ []) ([])
+    -- a look-ahead that stores and then fails keeps nothing
+    ∷ trial (Range 97 122 ∷ Def 0 ∷ Byte 33 ∷ Sequence 1 2 ∷ Not 3 ∷ Exists 0 ∷ Sequence 4 5 ∷ []) (0 ∷ []) 6 (97 ∷ []) 1000000 256 256
+    (99 ∷ 0 ∷ 7 ∷ 5 ∷ 0 ∷ 0 ∷ []) ([])
+    -- Range fails below
+    ∷ trial (Range 97 98 ∷ []) (0 ∷ []) 0 (96 ∷ []) 1000000 256 256 (99 ∷ 0 ∷ 1 ∷ 1 ∷ 0 ∷ 0 ∷ []) ([])
+    -- Call fails
+    ∷ trial (Byte 97 ∷ Call 0 ∷ []) (0 ∷ []) 1 (98 ∷ []) 1000000 256 256 (99 ∷ 0 ∷ 2 ∷ 2 ∷ 0 ∷ 0 ∷ []) ([])
+    -- Block fails, and the old names are there
+    ∷ trial (Range 97 122 ∷ Def 0 ∷ Byte 33 ∷ Sequence 1 2 ∷ Block 0 3 ∷ Exists 0 ∷ Choice 4 5 ∷ Sequence 1 6 ∷ []) (0 ∷ []) 7
+    (97 ∷ 98 ∷ []) 1000000 256 256 (0 ∷ 1 ∷ 10 ∷ 6 ∷ 1 ∷ 0 ∷ []) (0 ∷ 0 ∷ 1 ∷ [])
+    -- a Local that fails: what follows sees the old names
+    ∷ trial (Range 97 122 ∷ Def 0 ∷ Byte 33 ∷ Sequence 1 2 ∷ Local 0 3 ∷ Exists 0 ∷ Choice 4 5 ∷ Sequence 1 6 ∷ []) (0 ∷ []) 7
+    (97 ∷ 98 ∷ []) 1000000 256 256 (0 ∷ 1 ∷ 10 ∷ 6 ∷ 1 ∷ 0 ∷ []) (0 ∷ 0 ∷ 1 ∷ [])
+    -- an On that fails: what follows has the old truth
+    ∷ trial (Byte 33 ∷ On 0 false 0 ∷ If 0 true ∷ Choice 1 2 ∷ []) (0 ∷ []) 3 (97 ∷ []) 1000000 256 256 (0 ∷ 0 ∷ 4 ∷ 3 ∷ 0 ∷ 0 ∷ []) ([])
+    -- On inside On of the same condition
+    ∷ trial (If 0 true ∷ On 0 true 0 ∷ If 0 false ∷ Sequence 1 2 ∷ On 0 false 3 ∷ []) (0 ∷ []) 4 ([]) 1000000 256 256
+    (0 ∷ 0 ∷ 5 ∷ 4 ∷ 0 ∷ 0 ∷ []) ([])
+    -- On inside On of another condition
+    ∷ trial (If 0 false ∷ If 1 false ∷ Sequence 0 1 ∷ On 1 false 2 ∷ If 1 true ∷ Sequence 3 4 ∷ On 0 false 5 ∷ []) (0 ∷ []) 6
+    ([]) 1000000 256 256 (0 ∷ 0 ∷ 7 ∷ 5 ∷ 0 ∷ 0 ∷ []) ([])
+    -- a Local inside a Local of its own table: after the inner one the outer one's names are there
+    ∷ trial (Range 97 122 ∷ Def 0 ∷ Local 0 1 ∷ Match 0 ∷ Sequence 2 3 ∷ Sequence 1 4 ∷ Local 0 5 ∷ Sequence 1 6 ∷ []) (0 ∷ []) 7
+    (97 ∷ 98 ∷ 99 ∷ 98 ∷ []) 1000000 256 256 (0 ∷ 4 ∷ 12 ∷ 7 ∷ 1 ∷ 0 ∷ []) (0 ∷ 0 ∷ 1 ∷ [])
+    -- a Block inside a Local of its own table
+    ∷ trial (Range 97 122 ∷ Def 0 ∷ Isa 0 ∷ Sequence 1 2 ∷ Block 0 3 ∷ Isa 0 ∷ Sequence 4 5 ∷ Sequence 1 6 ∷ Local 0 7 ∷ Sequence 1 8 ∷ []) (0 ∷ []) 9 (97 ∷ 98 ∷ 99 ∷ 98 ∷ 98 ∷ []) 1000000 256 256 (0 ∷ 5 ∷ 16 ∷ 8 ∷ 1 ∷ 0 ∷ []) (0 ∷ 0 ∷ 1 ∷ [])
+    -- the same, but the name below the floor
+    ∷ trial (Range 97 122 ∷ Def 0 ∷ Isa 0 ∷ Sequence 1 2 ∷ Block 0 3 ∷ Isa 0 ∷ Sequence 4 5 ∷ Sequence 1 6 ∷ Local 0 7 ∷ Sequence 1 8 ∷ []) (0 ∷ []) 9 (97 ∷ 98 ∷ 99 ∷ 98 ∷ 97 ∷ []) 1000000 256 256 (99 ∷ 0 ∷ 16 ∷ 8 ∷ 0 ∷ 0 ∷ []) ([])
+    -- Is compares with the list before its pattern, which stores in the same table
+    ∷ trial (Byte 97 ∷ Byte 98 ∷ Def 0 ∷ Sequence 1 2 ∷ Choice 0 3 ∷ Is 0 ∷ Sequence 2 5 ∷ []) (4 ∷ []) 6
+    (98 ∷ 97 ∷ 98 ∷ 97 ∷ []) 1000000 256 256 (0 ∷ 4 ∷ 17 ∷ 7 ∷ 1 ∷ 0 ∷ []) (0 ∷ 0 ∷ 2 ∷ [])
+    -- and not with what that stored
+    ∷ trial (Byte 97 ∷ Byte 98 ∷ Def 0 ∷ Sequence 1 2 ∷ Choice 0 3 ∷ Isa 0 ∷ Sequence 2 5 ∷ []) (4 ∷ []) 6
+    (97 ∷ 98 ∷ 97 ∷ []) 1000000 256 256 (99 ∷ 0 ∷ 12 ∷ 7 ∷ 0 ∷ 0 ∷ []) ([])
+    -- a pattern of Is that stores takes room
+    ∷ trial (Range 97 122 ∷ Def 1 ∷ Byte 33 ∷ Def 0 ∷ Choice 1 2 ∷ Is 0 ∷ Sequence 3 5 ∷ []) (4 ∷ 0 ∷ []) 6 (97 ∷ 97 ∷ []) 100 9 1
+    (14 ∷ 0 ∷ 9 ∷ 5 ∷ 0 ∷ 1 ∷ []) ([])
+    -- Is with an empty symbol
+    ∷ trial (Range 97 122 ∷ Star 0 ∷ Def 0 ∷ Is 0 ∷ Sequence 2 3 ∷ []) (1 ∷ []) 4 ([]) 1000000 256 256 (0 ∷ 0 ∷ 7 ∷ 4 ∷ 1 ∷ 0 ∷ [])
+    (0 ∷ 0 ∷ 0 ∷ [])
+    -- a round of Match of an empty symbol is empty
+    ∷ trial (Range 97 122 ∷ Star 0 ∷ Def 0 ∷ Match 0 ∷ Star 3 ∷ Sequence 2 4 ∷ []) (1 ∷ []) 5 (33 ∷ []) 1000000 256 256
+    (15 ∷ 0 ∷ 6 ∷ 4 ∷ 0 ∷ 0 ∷ []) ([])
+    -- a Not does not turn a refusal
+    ∷ trial (Empty ∷ Star 0 ∷ Not 1 ∷ []) (0 ∷ []) 2 ([]) 1000000 256 256 (15 ∷ 0 ∷ 3 ∷ 3 ∷ 0 ∷ 0 ∷ []) ([])
+    -- a Choice does not turn a refusal
+    ∷ trial (Empty ∷ Star 0 ∷ Choice 1 0 ∷ []) (0 ∷ []) 2 ([]) 1000000 256 256 (15 ∷ 0 ∷ 3 ∷ 3 ∷ 0 ∷ 0 ∷ []) ([])
+    -- a refusal in the second alternative
+    ∷ trial (Byte 97 ∷ Call 1 ∷ Choice 0 1 ∷ []) (0 ∷ []) 2 (98 ∷ []) 100 4 0 (13 ∷ 0 ∷ 5 ∷ 4 ∷ 0 ∷ 0 ∷ []) ([])
+    -- the depth limit inside a pattern
+    ∷ trial (Byte 97 ∷ Call 0 ∷ Def 0 ∷ []) (1 ∷ []) 2 (97 ∷ []) 100 2 1 (13 ∷ 0 ∷ 2 ∷ 2 ∷ 0 ∷ 0 ∷ []) ([])
+    -- the step limit inside a second round
+    ∷ trial (Byte 97 ∷ Star 0 ∷ []) (0 ∷ []) 1 (97 ∷ 97 ∷ []) 3 9 0 (12 ∷ 0 ∷ 3 ∷ 2 ∷ 0 ∷ 1 ∷ []) ([])
+    -- the empty round comes before the step limit of the next
+    ∷ trial (Empty ∷ Star 0 ∷ []) (0 ∷ []) 1 ([]) 2 2 0 (15 ∷ 0 ∷ 2 ∷ 2 ∷ 0 ∷ 0 ∷ []) ([])
+    -- room is looked at before the next step
+    ∷ trial (Range 97 122 ∷ Def 0 ∷ Sequence 1 0 ∷ []) (0 ∷ []) 2 (97 ∷ 97 ∷ []) 3 3 0 (14 ∷ 0 ∷ 3 ∷ 3 ∷ 0 ∷ 0 ∷ []) ([])
     ∷ []
 
 abbrev held : Result → List ℕ

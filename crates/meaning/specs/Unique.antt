@@ -13,7 +13,7 @@ use Rattle.meaning.specs.Outcome.{Outcome, pass, fail, swap, restored, c
 use Rattle.meaning.specs.Cost.{Cost, nothing, enter, _⊕_, holding}
 use Rattle.meaning.specs.Rules.{Derives, named, symbol, empty, byte, range, any, text, seq-first, seq-both, choice-first, choice-second, star-stop, star-more, not, call, def-fail, def-pass, match, is-none, is-some, isa-none, isa-some, exists, block, local, if, on}
 
-true≢false : _≡_ {A = Bool} true false → ⊥
+pub true≢false : _≡_ {A = Bool} true false → ⊥
 true≢false e = let z : _≡_ {A = ℕ} 0 1 = cc in omega arith
 
 module _ (g : Grammar) (x : List ℕ) where
