@@ -1,6 +1,6 @@
 -- A table's list, found in the slot buffer: the latest symbol is where `latestOf` says, and the rest of the list is what lies below it.
 use Prim.Native.Nat.{ℕ, zero, suc, _+_, _-_, _*_, _≤_, _<_}
-use mathlib.Core.Path.{_≡_, refl, ap, sym, _∙_}
+use mathlib.Core.Path.{_≡_, refl, ap, sym, _∙_, subst}
 use mathlib.Core.Bool.{Bool, true, false}
 use mathlib.Core.List.{List, [], _∷_, _++_, reverse, append-nil, reverse-append}
 use native.Mathlib.Omega.{arith}
@@ -10,7 +10,7 @@ use lib.Seq.{drop-append-le}
 use borrow.Author.Tests.{le-ltb, lt-ltb, ltb-true, ltb-false}
 use Rattle.image.specs.Reading.{pick}
 use Rattle.meaning.specs.State.{Symbol, State, Env, ofTable, visible}
-use Rattle.meaning.specs.Outcome.{some}
+use Rattle.meaning.specs.Outcome.{same, part, text, among}
 use Rattle.machine.specs.Slots.{symbolAt, symbols, latestOf}
 use Rattle.machine.specs.SlotsLaws.{symbols-length}
 
@@ -66,3 +66,68 @@ module _ (table low : ℕ) (slots : List ℕ) where
           → Latest (suc h) (pick b 0 (pick (eqb (getD slots (h * 3) 0) table) (suc h) (latestOf table low h slots)))
       go true e r = none (below-floor (suc h) (ltb-true h low e))
       go false e r = this (ltb-false h low e) (eqb (getD slots (h * 3) 0) table) refl r
+
+  pub latest-below : {h n : ℕ} → Latest h n → n ≤ h
+  latest-below (none e) = omega arith
+  latest-below (found l m e) = omega (arith, m)
+
+-- A search through a table's list, from its latest symbol down: so far none was the same, and what is left of the list begins at `next`.
+module _ (x bytes : List ℕ) (table low : ℕ) (slots : List ℕ) where
+  abbrev found-in : ℕ → Bool
+  found-in h = among x bytes (listed table low slots h)
+
+  pub record Searching (held next : ℕ) : Type 0 where
+    pub upto : ℕ
+    pub on : upto ≤ held
+    pub at : Latest table low slots upto next
+    pub left : found-in held ≡ found-in upto
+
+  pub search-start : {held next : ℕ} → next ≡ latestOf table low held slots → Searching held next
+  search-start {held} e = record {
+    upto = held;
+    on = omega arith;
+    at = subst (Latest table low slots held) (sym e) (latest-is table low slots held);
+    left = refl;
+  }
+
+  among-step : (s : Symbol) (l : State) (b : Bool) → same bytes (text x s) ≡ b
+      → among x bytes (s ∷ l) ≡ elim b [ true ↦ true | false ↦ among x bytes l ]
+  among-step s l b e = ap (λ b. elim b [ true ↦ true | false ↦ among x bytes l ]) e
+
+  at-k : (k : ℕ) {b : Bool} → b ≡ same bytes (text x (symbolAt slots (suc k - 1))) → b ≡ same bytes (text x (symbolAt slots k))
+  at-k k {b} e = let z : suc k - 1 ≡ k = omega arith in subst (λ k. b ≡ same bytes (text x (symbolAt slots k))) z e
+
+  pub search-below : {held next : ℕ} → Searching held next → next ≤ held
+  search-below s = omega (arith, latest-below table low slots (s .at), s .on)
+
+  -- Where the symbol is the same, it is found;
+  pub search-found : {held next : ℕ} → Searching held next → 0 < next → true ≡ same bytes (text x (symbolAt slots (next - 1))) → true ≡ found-in held
+  search-found s l e = go (s .at) l e ∙ sym (s .left)
+    where
+      go : {h n : ℕ} → Latest table low slots h n → 0 < n → true ≡ same bytes (text x (symbolAt slots (n - 1))) → true ≡ found-in h
+      go (none f) l e = absurd (omega arith)
+      go (found {k} i m f) l e = sym (ap (among x bytes) f ∙ among-step (symbolAt slots k) (listed table low slots k) true (sym (at-k k e)))
+
+  -- where it is not, the search goes on below it;
+  pub search-on : {held next later : ℕ} → Searching held next → 0 < next → false ≡ same bytes (text x (symbolAt slots (next - 1)))
+      → later ≡ latestOf table low (next - 1) slots → Searching held later
+  search-on {held} {next} {later} s l e i = record {
+    upto = next - 1;
+    on = omega (arith, search-below s);
+    at = subst (Latest table low slots (next - 1)) (sym i) (latest-is table low slots (next - 1));
+    left = s .left ∙ go (s .at) l e;
+  }
+    where
+      go : {h n : ℕ} → Latest table low slots h n → 0 < n → false ≡ same bytes (text x (symbolAt slots (n - 1))) → found-in h ≡ found-in (n - 1)
+      go (none f) l e = absurd (omega arith)
+      go (found {k} i m f) l e =
+          let z : k ≡ suc k - 1 = omega arith in
+          ap (among x bytes) f ∙ among-step (symbolAt slots k) (listed table low slots k) false (sym (at-k k e)) ∙ ap found-in z
+
+  -- and where no symbol is left, none is the same.
+  pub search-end : {held next : ℕ} → Searching held next → next ≡ 0 → false ≡ found-in held
+  search-end s z = go (s .at) z ∙ sym (s .left)
+    where
+      go : {h n : ℕ} → Latest table low slots h n → n ≡ 0 → false ≡ found-in h
+      go (none f) l = rw f
+      go (found k m f) l = absurd (omega arith)

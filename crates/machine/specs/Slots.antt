@@ -7,6 +7,7 @@ use lib.ListN.{length, drop, getD, set}
 use Rattle.image.specs.Reading.{pick}
 use Rattle.meaning.specs.State.{Symbol, State, others}
 use Rattle.meaning.specs.Rules.{symbol}
+use Rattle.meaning.specs.Inside.{Part}
 
 -- The symbol of a number, and the first h symbols.
 abbrev pub symbolAt : List ℕ → ℕ → Symbol
@@ -36,3 +37,7 @@ pub record Closes (table mark held : ℕ) (before after : List ℕ) (r : ℕ) : 
   pub most : r ≤ held
   pub holds : symbols r after ≡ symbols mark before ++ others table (drop mark (symbols held before))
   pub frame : Below mark before after
+
+-- The first h symbols are parts of an input of n bytes.
+abbrev pub Parts : (n h : ℕ) → List ℕ → Type 0
+Parts n h slots = (k : ℕ) → k < h → Part n (symbolAt slots k)

@@ -2,10 +2,12 @@
 ghost use mathlib.Core.Path.{_≡_};
 ghost use Prim.Native.Nat.{_+_, _*_, _≤_};
 ghost use lib.ListN.{length};
-ghost use Rattle.meaning.specs.Outcome.{same as Outcome·same, part, text};
-ghost use Rattle.machine.specs.Slots.{symbolAt};
+ghost use Rattle.meaning.specs.Outcome.{same as Outcome·same, part, text, among};
+ghost use Rattle.machine.specs.Slots.{symbolAt, Parts};
+ghost use Rattle.machine.specs.Seen.{listed};
 ghost use Rattle.meaning.specs.Inside.{Part};
 use crate::bytes::same;
+use crate::slots::latest;
 
 // Whether the symbol of a number is, byte for byte, what stands in the input from `at` to `to`.
 pub fn is_symbol(input: &[u8], slots: &[u32], number: u32, at: usize, to: usize) -> bool
@@ -19,4 +21,27 @@ pub fn is_symbol(input: &[u8], slots: &[u32], number: u32, at: usize, to: usize)
         return false;
     }
     same(input, at, input, from, to - at)
+}
+
+// Whether some symbol of a table's list, of the first `held` symbols those from `low` on, is what stands in the input from `at` to `to`.
+pub fn is_listed(
+    input: &[u8],
+    slots: &[u32],
+    table: u32,
+    low: u32,
+    held: u32,
+    at: usize,
+    to: usize,
+) -> bool
+    requires { ⌜ (held ≤ 256) × (held * 3 ≤ length (now slots)) × Parts (length (now input)) held (now slots) × (at ≤ to) × (to ≤ length (now input)) ⌝ }
+    ensures { λ r. ⌜ r ≡ among (now (input .entry)) (part (now (input .entry)) at to) (listed table low (now (slots .entry)) held) ⌝ }
+{
+    let mut next = latest(slots, table, low, held);
+    while 0 < next {
+        if is_symbol(input, slots, next - 1, at, to) {
+            return true;
+        }
+        next = latest(slots, table, low, next - 1);
+    }
+    false
 }
