@@ -10,6 +10,7 @@ use lib.Seq.{drop-append-le}
 use borrow.Author.Tests.{le-ltb, lt-ltb, ltb-true, ltb-false}
 use Rattle.image.specs.Reading.{pick}
 use Rattle.meaning.specs.State.{Symbol, State, Env, ofTable, visible}
+use Rattle.meaning.specs.Scopes.{of-append}
 use Rattle.meaning.specs.Outcome.{same, part, text, among}
 use Rattle.machine.specs.Slots.{symbolAt, symbols, latestOf}
 use Rattle.machine.specs.SlotsLaws.{symbols-length}
@@ -19,15 +20,6 @@ module _ (table low : ℕ) (slots : List ℕ) where
   abbrev pub listed : ℕ → State
   listed h = reverse (ofTable table (drop low (symbols h slots)))
 
-  of-append : (σ τ : State) → ofTable table (σ ++ τ) ≡ ofTable table σ ++ ofTable table τ
-  of-append [] τ = refl
-  of-append (s ∷ σ) τ = go (eqb (s .table) table) (of-append σ τ)
-    where
-      go : (b : Bool) → ofTable table (σ ++ τ) ≡ ofTable table σ ++ ofTable table τ
-          → (elim b [ true ↦ s ∷ ofTable table (σ ++ τ) | false ↦ ofTable table (σ ++ τ) ]) ≡ (elim b [ true ↦ s ∷ ofTable table σ | false ↦ ofTable table σ ]) ++ ofTable table τ
-      go true e = ap (λ l. s ∷ l) e
-      go false e = e
-
   below-floor : (h : ℕ) → h ≤ low → listed h ≡ []
   below-floor h l = rw (drop-of-length-le (symbols h slots) {i = low} (omega (arith, symbols-length h slots)))
 
@@ -35,7 +27,7 @@ module _ (table low : ℕ) (slots : List ℕ) where
   unfolding symbols
   listed-step h l =
       ap reverse (ap (ofTable table) (drop-append-le low (symbols h slots) (symbolAt slots h ∷ []) (omega (arith, symbols-length h slots)))
-      ∙ of-append (drop low (symbols h slots)) (symbolAt slots h ∷ []))
+      ∙ of-append table (drop low (symbols h slots)) (symbolAt slots h ∷ []))
       ∙ reverse-append (ofTable table (drop low (symbols h slots))) (ofTable table (symbolAt slots h ∷ []))
       ∙ go (eqb (getD slots (h * 3) 0) table)
     where

@@ -26,7 +26,7 @@ Floored v σ = (t : ℕ) → getD (v .floors) t 0 ≤ length σ
 
 -- ## Tables
 
-of-append : (t : ℕ) (σ τ : State) → ofTable t (σ ++ τ) ≡ ofTable t σ ++ ofTable t τ
+pub of-append : (t : ℕ) (σ τ : State) → ofTable t (σ ++ τ) ≡ ofTable t σ ++ ofTable t τ
 of-append t [] τ = refl
 of-append t (s ∷ σ) τ = go (eqb (s .table) t) (of-append t σ τ)
   where
