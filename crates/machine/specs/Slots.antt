@@ -31,12 +31,14 @@ pub record Below (mark : ℕ) (before after : List ℕ) : Type 0 where
   pub long : length after ≡ length before
   pub same : (k : ℕ) → k < mark * 3 → getD after k 0 ≡ getD before k 0
 
--- A scope of a table closed: what is held above the mark and not of the table slides down to it. r symbols are held then.
+-- A scope of a table closed: what is held above the mark and not of the table slides down to it. r symbols are held
+-- then, and what lies from them on is as it was.
 pub record Closes (table mark held : ℕ) (before after : List ℕ) (r : ℕ) : Type 0 where
   pub least : mark ≤ r
   pub most : r ≤ held
   pub holds : symbols r after ≡ symbols mark before ++ others table (drop mark (symbols held before))
   pub frame : Below mark before after
+  pub past : (k : ℕ) → r * 3 ≤ k → getD after k 0 ≡ getD before k 0
 
 -- The first h symbols are parts of an input of n bytes.
 abbrev pub Parts : (n h : ℕ) → List ℕ → Type 0

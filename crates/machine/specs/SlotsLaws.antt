@@ -1,14 +1,14 @@
 -- Laws of the slot buffer.
 use Prim.Native.Nat.{ℕ, zero, suc, _+_, _-_, _*_, _≤_, _<_}
-use mathlib.Core.Path.{_≡_, refl, ap, sym, _∙_}
+use mathlib.Core.Path.{_≡_, refl, ap, sym, _∙_, subst}
 use mathlib.Core.Bool.{Bool, true, false}
 use mathlib.Core.List.{List, [], _∷_, _++_, append-assoc, append-nil}
 use native.Mathlib.Omega.{arith}
 use native.Mathlib.Numerals.{add-one}
 use lib.Dec.{eqb, ltb}
 use lib.ListN.{length, take, drop, getD, set, replicate, length-set, length-append, length-replicate, take-append-drop, drop-of-length-le}
-use lib.Seq.{drop-cons, set-at, length-take-le, drop-append-le, getD-set-same, getD-set-other}
-use borrow.Author.Tests.{le-ltb, lt-ltb, eq-eqb, ne-eqb}
+use lib.Seq.{drop-cons, set-at, length-take-le, drop-append-le, getD-set-same, getD-set-other, take-append-seam, drop-append-seam, ext-getD}
+use borrow.Author.Tests.{le-ltb, lt-ltb, ltb-true, ltb-false, eq-eqb, ne-eqb}
 use Rattle.image.specs.Reading.{pick}
 use Rattle.meaning.specs.State.{Symbol, State, others}
 use Rattle.meaning.specs.Rules.{symbol}
@@ -143,14 +143,14 @@ one-kept : (t : ℕ) (s : Symbol) → (s .table ≡ t → ⊥) → others t (s �
 one-kept t s e = rw (ne-eqb (s .table) t e, others)
 
 module _ (table mark held : ℕ) (before : List ℕ) where
-  -- Of the symbols from the mark up to `from` those that stay have slid down, up to `to`; what lies from `from` on is as it was.
+  -- Of the symbols from the mark up to `from` those that stay have slid down, up to `to`; what lies from `to` on is as it was.
   pub record Closing (after : List ℕ) (from to : ℕ) : Type 0 where
     pub start : mark ≤ to
     pub behind : to ≤ from
     pub on : from ≤ held
     pub holds : symbols to after ≡ symbols mark before ++ others table (drop mark (symbols from before))
     pub frame : Below mark before after
-    pub ahead : (k : ℕ) → from * 3 ≤ k → getD after k 0 ≡ getD before k 0
+    pub ahead : (k : ℕ) → to * 3 ≤ k → getD after k 0 ≡ getD before k 0
 
   stays :
       (from : ℕ) → mark ≤ from
@@ -177,7 +177,7 @@ module _ (table mark held : ℕ) (before : List ℕ) where
     -- A symbol of the table is passed over.
     pub closing-drops : getD after (from * 3) 0 ≡ table → Closing after (from + 1) to
     closing-drops e =
-        let own : getD before (from * 3) 0 ≡ table = sym (c .ahead (from * 3) (omega arith)) ∙ e in
+        let own : getD before (from * 3) 0 ≡ table = sym (c .ahead (from * 3) (omega (arith, c .behind))) ∙ e in
         record {
           start = c .start;
           behind = omega (arith, c .behind);
@@ -185,7 +185,7 @@ module _ (table mark held : ℕ) (before : List ℕ) where
           holds = rw (add-one from) (c .holds ∙ ap (λ l. symbols mark before ++ l) (sym (stays from (omega (arith, c .start, c .behind))
               ∙ rw (one-dropped table (symbolAt before from) own) (append-nil (others table (drop mark (symbols from before)))))));
           frame = c .frame;
-          ahead = λ k l. c .ahead k (omega arith);
+          ahead = c .ahead;
         }
 
     -- A symbol of another table slides down.
@@ -196,9 +196,12 @@ module _ (table mark held : ℕ) (before : List ℕ) where
         let t = getD after (from * 3) 0 in let p = getD after (from * 3 + 1) 0 in let q = getD after (from * 3 + 2) 0 in
         let fits : to * 3 + 3 ≤ length after = omega (arith, c .behind) in
         let same : symbol t p q
-        ≡ symbolAt before from = cc
-        (c .ahead (from * 3) (omega arith), c .ahead (from * 3 + 1) (omega arith), c .ahead (from * 3 + 2) (omega arith)) in
-        let other : getD before (from * 3) 0 ≡ table → ⊥ = λ z. e (c .ahead (from * 3) (omega arith) ∙ z) in
+        ≡ symbolAt before from = cc (
+          c .ahead (from * 3) (omega (arith, c .behind)),
+          c .ahead (from * 3 + 1) (omega (arith, c .behind)),
+          c .ahead (from * 3 + 2) (omega (arith, c .behind)),
+        ) in
+        let other : getD before (from * 3) 0 ≡ table → ⊥ = λ z. e (c .ahead (from * 3) (omega (arith, c .behind)) ∙ z) in
         record {
           start = omega (arith, c .start);
           behind = omega (arith, c .behind);
@@ -214,11 +217,61 @@ module _ (table mark held : ℕ) (before : List ℕ) where
                 (λ z. omega (arith, c .start)) ∙ c .frame .same k l;
           };
           ahead =
-              λ k l. putting-other after to t p q fits k (λ z. omega (arith, c .behind)) (λ z. omega (arith, c .behind))
-              (λ z. omega (arith, c .behind)) ∙ c .ahead k (omega arith);
+              λ k l. putting-other after to t p q fits k (λ z. omega arith) (λ z. omega arith) (λ z. omega arith)
+              ∙ c .ahead k (omega arith);
         }
 
   pub closing-ends : {after : List ℕ} {from to : ℕ} → Closing after from to → held ≤ from → Closes table mark held before after to
   closing-ends {after} {from} {to} c h =
       let e : from ≡ held = omega (arith, c .on) in
-      record { least = c .start; most = omega (arith, c .behind, c .on); holds = rw e at (c .holds); frame = c .frame }
+      record { least = c .start; most = omega (arith, c .behind, c .on); holds = rw e at (c .holds); frame = c .frame; past = c .ahead }
+
+-- ## A closed scope leaves one buffer
+
+-- The symbols held fix the numbers that keep them.
+symbols-numbers : (h : ℕ) (a b : List ℕ) → symbols h a ≡ symbols h b → (k : ℕ) → k < h * 3 → getD a k 0 ≡ getD b k 0
+unfolding symbols
+symbols-numbers zero a b e k l = absurd (omega arith)
+symbols-numbers (suc h) a b e k l = go (λ f k l. symbols-numbers h a b f k l) (ltb k (h * 3)) refl
+  where
+    front-of : (c : List ℕ) → take h (symbols h c ++ (symbolAt c h ∷ [])) ≡ symbols h c
+    front-of c =
+        subst (λ n. take n (symbols h c ++ (symbolAt c h ∷ [])) ≡ symbols h c) (symbols-length h c)
+        (take-append-seam (symbols h c) (symbolAt c h ∷ []))
+
+    end-of : (c : List ℕ) → drop h (symbols h c ++ (symbolAt c h ∷ [])) ≡ symbolAt c h ∷ []
+    end-of c =
+        subst (λ n. drop n (symbols h c ++ (symbolAt c h ∷ [])) ≡ symbolAt c h ∷ []) (symbols-length h c)
+        (drop-append-seam (symbols h c) (symbolAt c h ∷ []))
+
+    last : symbolAt a h ≡ symbolAt b h
+    last = ap (λ l. getD l 0 (symbolAt a h)) (sym (end-of a) ∙ ap (drop h) e ∙ end-of b)
+
+    three : (i : ℕ) → i < 3 → getD a (h * 3 + i) 0 ≡ getD b (h * 3 + i) 0
+    three zero m = let z : h * 3 + 0 ≡ h * 3 = omega arith in rw z (ap (λ s. s .table) last)
+    three (suc zero) m = ap (λ s. s .from) last
+    three (suc (suc zero)) m = ap (λ s. s .to) last
+    three (suc (suc (suc i))) m = absurd (omega arith)
+
+    go :
+        (symbols h a ≡ symbols h b → (k : ℕ) → k < h * 3 → getD a k 0 ≡ getD b k 0) → (t : Bool) → ltb k (h * 3) ≡ t
+        → getD a k 0 ≡ getD b k 0
+    go before true q = before (sym (front-of a) ∙ ap (take h) e ∙ front-of b) k (ltb-true k (h * 3) q)
+    go before false q =
+        let z : h * 3 + (k - h * 3) ≡ k = omega (arith, ltb-false k (h * 3) q) in
+        subst (λ k. getD a k 0 ≡ getD b k 0) z (three (k - h * 3) (omega (arith, ltb-false k (h * 3) q)))
+
+-- Two outcomes that `Closes` permits are equal.
+pub closes-once : {table mark held : ℕ} {before a b : List ℕ} {r q : ℕ}
+    → Closes table mark held before a r → Closes table mark held before b q → (r ≡ q) × (a ≡ b)
+closes-once {before =
+    before} {a} {b} {r} {q} c d = (same, ext-getD 0 a b (c .frame .long ∙ sym (d .frame .long)) (λ k l. go k (ltb k (r * 3)) refl))
+  where
+    same : r ≡ q
+    same = sym (symbols-length r a) ∙ ap length (c .holds ∙ sym (d .holds)) ∙ symbols-length q b
+
+    go : (k : ℕ) (t : Bool) → ltb k (r * 3) ≡ t → getD a k 0 ≡ getD b k 0
+    go k true e =
+        symbols-numbers r a b (c .holds ∙ sym (d .holds) ∙ ap (λ n. symbols n b) (sym same)) k (ltb-true k (r * 3) e)
+    go k false e =
+        let h = ltb-false k (r * 3) e in c .past k h ∙ sym (d .past k (omega (arith, same)))
