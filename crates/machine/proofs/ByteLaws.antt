@@ -1,15 +1,15 @@
--- Bytes compared one after the other.
+-- Bytes of the input, one and many.
 use Prim.Native.Nat.{ℕ, zero, suc, _+_, _-_, _≤_, _<_}
 use mathlib.Core.Path.{_≡_, refl, ap, sym, _∙_}
 use mathlib.Core.Bool.{Bool, true, false}
 use mathlib.Core.List.{List, [], _∷_}
 use native.Mathlib.Omega.{arith}
 use native.Mathlib.Numerals.{add-one}
-use lib.Dec.{eqb}
-use lib.ListN.{length, take, drop, getD, length-take, length-drop}
+use lib.Dec.{eqb, leb}
+use lib.ListN.{length, take, drop, getD, length-take, length-drop, drop-of-length-le}
 use lib.Seq.{drop-cons, length-take-le}
-use borrow.Author.Tests.{eq-eqb, ne-eqb}
-use Rattle.meaning.specs.Outcome.{_and_, same, begins, part}
+use borrow.Author.Tests.{eq-eqb, ne-eqb, le-leb, lt-leb}
+use Rattle.meaning.specs.Outcome.{_and_, same, begins, inRange, part}
 use Rattle.meaning.specs.Forward.{same-length}
 
 front : (l : List ℕ) (i m : ℕ) → i < length l → take (suc m) (drop i l) ≡ getD l i 0 ∷ take m (drop (suc i) l)
@@ -96,3 +96,18 @@ module _ (x : List ℕ) where
   pub parts-same : (p q i j : ℕ) {r : Bool} → j - i ≡ q - p → r ≡ same (take (q - p) (drop p x)) (take (q - p) (drop i x))
       → r ≡ same (part x p q) (part x i j)
   parts-same p q i j e h = h ∙ ap (λ n. same (part x p q) (take n (drop i x))) (sym e)
+
+-- ## One byte
+
+module _ (x : List ℕ) (at lo hi : ℕ) where
+  pub none-left : length x ≤ at → false ≡ inRange lo hi (drop at x)
+  none-left h = rw (drop-of-length-le x {i = at} h)
+
+  range-here : at < length x → (t : Bool) → leb lo (getD x at 0) ≡ t → (t and leb (getD x at 0) hi) ≡ inRange lo hi (drop at x)
+  range-here h t e = sym (ap (inRange lo hi) (drop-cons x at 0 h) ∙ ap (λ t. t and leb (getD x at 0) hi) e)
+
+  pub from-lo : at < length x → lo ≤ getD x at 0 → leb (getD x at 0) hi ≡ inRange lo hi (drop at x)
+  from-lo h l = range-here h true (le-leb lo (getD x at 0) l)
+
+  pub below-lo : at < length x → getD x at 0 < lo → leb lo (getD x at 0) ≡ inRange lo hi (drop at x)
+  below-lo h l = lt-leb lo (getD x at 0) l ∙ range-here h false (lt-leb lo (getD x at 0) l)

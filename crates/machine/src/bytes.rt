@@ -1,8 +1,8 @@
-// Bytes against bytes.
+// Bytes of the input, one and many.
 ghost use mathlib.Core.Path.{_≡_};
 ghost use Prim.Native.Nat.{_+_, _≤_};
 ghost use lib.ListN.{length, take, drop};
-ghost use Rattle.meaning.specs.Outcome.{same as Outcome·same, begins};
+ghost use Rattle.meaning.specs.Outcome.{same as Outcome·same, begins, inRange};
 
 // Whether the n bytes of a from i on are the n bytes of b from j on.
 pub fn same(a: &[u8], i: usize, b: &[u8], j: usize, n: usize) -> bool
@@ -28,4 +28,15 @@ pub fn begins_with(input: &[u8], at: usize, b: &[u8], j: usize, n: usize) -> boo
         return false;
     }
     same(input, at, b, j, n)
+}
+
+// Whether a byte is left at `at` and is within lo and hi.
+pub fn within(input: &[u8], at: usize, lo: u8, hi: u8) -> bool
+    ensures { λ r. ⌜ r ≡ inRange lo hi (drop at (now (input .entry))) ⌝ }
+{
+    if input.len() <= at {
+        return false;
+    }
+    let byte = input[at];
+    lo <= byte && byte <= hi
 }
