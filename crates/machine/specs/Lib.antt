@@ -3,3 +3,5 @@ pub mod PackedLaws
 pub mod Slots
 pub mod SlotsLaws
 pub mod Seen
+pub mod Told
+pub mod ToldLaws
