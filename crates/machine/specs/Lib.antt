@@ -5,3 +5,9 @@ pub mod SlotsLaws
 pub mod Seen
 pub mod Told
 pub mod ToldLaws
+pub mod Held
+pub mod Turned
+pub mod Ready
+pub mod TurnedLaws
+pub mod ReadyLaws
+pub mod DoneLaws

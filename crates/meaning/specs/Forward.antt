@@ -24,15 +24,15 @@ same-length (a ∷ aa) (b ∷ bs) e = ap suc (same-length aa bs (right (eqb a b)
     right true t e = e
     right false t e = let z : _≡_ {A = ℕ} 0 1 = cc in absurd (omega arith)
 
-begins-fits : (bs y : List ℕ) → begins bs y ≡ true → length bs ≤ length y
+pub begins-fits : (bs y : List ℕ) → begins bs y ≡ true → length bs ≤ length y
 begins-fits bs y e =
     let h : length (take (length bs) y) ≡ length bs = same-length (take (length bs) y) bs e in omega (arith, simp length-take at h)
 
-one-fits : (y : List ℕ) → some y ≡ true → 1 ≤ length y
+pub one-fits : (y : List ℕ) → some y ≡ true → 1 ≤ length y
 one-fits [] e = let z : _≡_ {A = ℕ} 0 1 = cc in absurd (omega arith)
 one-fits (b ∷ y) e = omega arith
 
-range-fits : (lo hi : ℕ) (y : List ℕ) → inRange lo hi y ≡ true → 1 ≤ length y
+pub range-fits : (lo hi : ℕ) (y : List ℕ) → inRange lo hi y ≡ true → 1 ≤ length y
 range-fits lo hi [] e = let z : _≡_ {A = ℕ} 0 1 = cc in absurd (omega arith)
 range-fits lo hi (b ∷ y) e = omega arith
 

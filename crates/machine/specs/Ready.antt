@@ -1,0 +1,87 @@
+-- What the evaluator and the members of its cycle ask and give.
+use Prim.Native.Nat.{ℕ, _+_, _-_, _*_, _≤_, _<_}
+use mathlib.Core.Path.{_≡_}
+use mathlib.Core.List.{List, [], List·Memᴰ}
+use lib.ListN.{length, getD}
+use Rattle.grammar.specs.Expr.{Expr}
+use Rattle.grammar.specs.Grammar.{Grammar, tables, size, node, pattern}
+use Rattle.grammar.specs.Sound.{Sound}
+use Rattle.image.specs.Image.{Checked, good, refused, readImage}
+use Rattle.image.specs.Node.{nodeOf, exprOf, InImage}
+use Rattle.meaning.specs.State.{Symbol, State as Symbols}
+use Rattle.meaning.specs.Outcome.{pass, fail}
+use Rattle.meaning.specs.Inside.{Part}
+use Rattle.machine.specs.declared.outcome.Outcome.{Outcome}
+use Rattle.machine.specs.declared.outcome.Outcome.the-variants.{Passed, Failed, Refused}
+use Rattle.machine.specs.declared.state.State.{State}
+use Rattle.machine.specs.Packed.{openedOf}
+use Rattle.machine.specs.Slots.{symbols, Below}
+use Rattle.machine.specs.Held.{envOf}
+use Rattle.machine.specs.Told.{Told, came, stopped, tells, rounding}
+
+-- The grammar that an image stands for; where it stands for none, one without nodes.
+abbrev pub ofChecked : Checked → Grammar
+ofChecked (good g) = g
+ofChecked (refused n p) = record { conditions = 0; start = 0; patterns = []; nodes = [] }
+
+unfoldable pub grammarOf : (image : List ℕ) → Grammar
+grammarOf image = ofChecked (readImage image)
+
+-- The limits stand behind the nodes and patterns: steps, depth, room.
+abbrev pub stepLimit : (code : List ℕ) → ℕ
+stepLimit code = getD code 520 0
+
+abbrev pub depthLimit : (code : List ℕ) → ℕ
+depthLimit code = getD code 521 0
+
+abbrev pub roomLimit : (code : List ℕ) → ℕ
+roomLimit code = getD code 522 0
+
+-- The array holds the nodes and patterns of a sound grammar.
+pub record Coded (image code : List ℕ) (g : Grammar) : Type 0 where
+  pub sound : Sound g
+  pub nodes : (n : ℕ) → n < size g → exprOf image (nodeOf (getD code n 0)) ≡ node g n
+  pub texts : (n : ℕ) → n < size g → InImage image (nodeOf (getD code n 0))
+  pub patterns : (t : ℕ) → t < tables g → getD code (512 + t) 0 ≡ pattern g t
+
+-- Asked: the limits are within their ranges, exactly as many slots as they say are lent, the place is in the input, the tally is within
+-- the limits and the depth it names is at least the depth here, and every held symbol is a part of the input.
+pub record Ready (code image input slots : List ℕ) (left at held steps depth : ℕ) : Type 0 where
+  pub coded : Coded image code (grammarOf image)
+  pub long : length code ≡ 523
+  pub few-steps : stepLimit code ≤ 1000000
+  pub small-depth : depthLimit code ≤ 256
+  pub small-room : roomLimit code ≤ 256
+  pub lent : length slots ≡ roomLimit code * 3
+  pub short : length input ≤ 65535
+  pub place : at ≤ length input
+  pub room : held ≤ roomLimit code
+  pub spent : steps ≤ stepLimit code
+  pub deep : left ≤ depthLimit code
+  pub reached : depthLimit code - left ≤ depth
+  pub entered : depth ≤ depthLimit code
+  pub parts : (s : Symbol) → List·Memᴰ s (symbols held slots) → Part (length input) s
+
+-- A node's number.
+abbrev pub Node : (image : List ℕ) → ℕ → Type 0
+Node image n = n < size (grammarOf image)
+
+-- An outcome, with the symbols that the slots then hold.
+abbrev pub readBack : Outcome → (slots : List ℕ) → Told
+readBack (Passed a h s d) slots = came (pass a (symbols h slots)) s d
+readBack (Failed s d) slots = came fail s d
+readBack (Refused n p s d) slots = stopped n p s d
+
+-- Given: what is said, and that nothing below the held symbols is written.
+pub record Done (held : ℕ) (before after : List ℕ) (r : ℕ) (said : Told) : Type 0 where
+  pub says : readBack (openedOf r) after ≡ said
+  pub frame : Below held before after
+
+-- What is to be said of an expression, and of a Star whose next round is charged.
+abbrev pub telling : (code image input : List ℕ) (state : State) (left steps depth : ℕ) → Expr → ℕ → Symbols → Told
+telling code image input state left steps depth e p σ =
+    tells (grammarOf image) input (stepLimit code) (depthLimit code) (roomLimit code) left steps depth (envOf state) e p σ
+
+abbrev pub starring : (code image input : List ℕ) (state : State) (left steps depth : ℕ) → ℕ → ℕ → Symbols → Told
+starring code image input state left steps depth a p σ =
+    rounding (grammarOf image) input (stepLimit code) (depthLimit code) (roomLimit code) left steps depth (envOf state) a p σ
