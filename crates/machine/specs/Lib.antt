@@ -11,3 +11,5 @@ pub mod Ready
 pub mod TurnedLaws
 pub mod ReadyLaws
 pub mod DoneLaws
+pub mod EntryLaws
+pub mod StarLaws

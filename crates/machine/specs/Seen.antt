@@ -11,7 +11,7 @@ use borrow.Author.Tests.{le-ltb, lt-ltb, ltb-true, ltb-false}
 use Rattle.image.specs.Reading.{pick}
 use Rattle.meaning.specs.State.{Symbol, State, Env, ofTable, visible}
 use Rattle.meaning.specs.Scopes.{of-append}
-use Rattle.meaning.specs.Outcome.{same, part, text, among}
+use Rattle.meaning.specs.Outcome.{same, some, part, text, among}
 use Rattle.machine.specs.Slots.{symbolAt, symbols, latestOf}
 use Rattle.machine.specs.SlotsLaws.{symbols-length}
 
@@ -62,6 +62,37 @@ module _ (table low : ℕ) (slots : List ℕ) where
   pub latest-below : {h n : ℕ} → Latest h n → n ≤ h
   latest-below (none e) = omega arith
   latest-below (found l m e) = omega (arith, m)
+
+-- Nothing is seen, or the list begins with what is seen.
+module _ (table low : ℕ) (slots : List ℕ) (held : ℕ) {seen : ℕ} (e : seen ≡ latestOf table low held slots) where
+  seeing : Latest table low slots held seen
+  seeing = subst (Latest table low slots held) (sym e) (latest-is table low slots held)
+
+  pub seen-none : seen ≡ 0 → listed table low slots held ≡ []
+  seen-none z = go seeing z
+    where
+      go : {n : ℕ} → Latest table low slots held n → n ≡ 0 → listed table low slots held ≡ []
+      go (none f) z = f
+      go (found l m f) z = absurd (omega arith)
+
+  pub seen-below : seen ≤ held
+  seen-below = latest-below table low slots seeing
+
+  pub seen-front : 0 < seen → listed table low slots held ≡ symbolAt slots (seen - 1) ∷ listed table low slots (seen - 1)
+  seen-front l = go seeing l
+    where
+      go : {n : ℕ} → Latest table low slots held n → 0 < n → listed table low slots held ≡ symbolAt slots (n - 1) ∷ listed table low slots (n - 1)
+      go (none f) l = absurd (omega arith)
+      go (found {k} i m f) l =
+          let z : k ≡ suc k - 1 = omega arith in
+          f ∙ ap (λ k. symbolAt slots k ∷ listed table low slots k) z
+
+  pub seen-some : ltb 0 seen ≡ some (listed table low slots held)
+  seen-some = go (ltb 0 seen) refl
+    where
+      go : (b : Bool) → ltb 0 seen ≡ b → ltb 0 seen ≡ some (listed table low slots held)
+      go true h = h ∙ sym (ap some (seen-front (ltb-true 0 seen h)))
+      go false h = h ∙ sym (ap some (seen-none (omega (arith, ltb-false 0 seen h))))
 
 -- A search through a table's list, from its latest symbol down: so far none was the same, and what is left of the list begins at `next`.
 module _ (x bytes : List ℕ) (table low : ℕ) (slots : List ℕ) where
