@@ -37,6 +37,13 @@ done-given {held} {slots} ok at s d e =
     go true = refl
     go false = refl
 
+pub done-passed : {held : ℕ} {slots : List ℕ} (at s d : ℕ) {q : ℕ} → openedOf q ≡ Passed at held s d
+    → Done held slots slots q (came (pass at (symbols held slots)) s d)
+done-passed {held} {slots} at s d e = record { says = ap (λ o. readBack o slots) e; frame = below-same held slots }
+
+pub done-failed : {held : ℕ} {slots : List ℕ} (s d : ℕ) {q : ℕ} → openedOf q ≡ Failed s d → Done held slots slots q (came fail s d)
+done-failed {held} {slots} s d e = record { says = ap (λ o. readBack o slots) e; frame = below-same held slots }
+
 pub done-refused : {held : ℕ} {slots : List ℕ} (n p s d : ℕ) {q : ℕ} → openedOf q ≡ Refused n p s d → Done held slots slots q (stopped n p s d)
 done-refused {held} {slots} n p s d e = record { says = ap (λ o. readBack o slots) e; frame = below-same held slots }
 

@@ -1,8 +1,8 @@
 -- A node that was entered: what may be asked of the nodes inside it, and what is then said of it. One law a kind.
 use Prim.Native.Nat.{ℕ, zero, suc, _+_, _-_, _*_, _≤_, _<_, max}
 use mathlib.Core.Path.{_≡_, refl, ap, sym, _∙_, subst}
-use mathlib.Core.Bool.{Bool, true, false}
-use mathlib.Core.List.{List, [], _∷_, _++_}
+use mathlib.Core.Bool.{Bool, true, false, Bool·beq}
+use mathlib.Core.List.{List, [], _∷_, _++_, reverse}
 use native.Mathlib.Omega.{arith}
 use lib.Dec.{eqb, leb, ltb}
 use lib.ListN.{length, take, drop, getD, length-take, length-drop, drop-of-length-le}
@@ -14,15 +14,17 @@ use Rattle.image.specs.Node.{nodeOf, exprOf}
 use Rattle.image.specs.Reading.{pick}
 use Rattle.image.specs.declared.node.Node.{Node}
 use Rattle.image.specs.declared.node.Node.the-variants.{Empty, Byte, Range, Any, Text, Sequence, Choice, Star, Not, Call, Def, Match, Is, Isa, Exists, Block, Local, If, On}
-use Rattle.meaning.specs.State.{Symbol, State as Symbols, visible, hide, switch}
+use Rattle.meaning.specs.State.{Symbol, State as Symbols, ofTable, visible, hide, switch}
 use Rattle.meaning.specs.Outcome.{Outcome as Meant, pass, fail, _and_, begins, some, inRange, agree, passIf, swap, restored, closed, matched, compared, text}
 use Rattle.meaning.specs.Rules.{symbol}
 use Rattle.machine.specs.declared.state.State.{State}
-use Rattle.machine.specs.Slots.{symbols, symbolAt}
+use Rattle.machine.specs.Slots.{symbols, symbolAt, latestOf, Below}
+use Rattle.machine.specs.Seen.{listed, seen-none, seen-front, seen-some}
 use Rattle.machine.specs.SlotsLaws.{symbols-length}
 use Rattle.machine.specs.Held.{envOf, hiding}
 use Rattle.machine.specs.Told.{Told, came, stopped, andThen, orElse, become, tells}
 use Rattle.machine.specs.ToldLaws.{tells-sequence, tells-choice, tells-star, tells-not, tells-call, tells-block, tells-local, tells-on, tells-def, Naming, with-latest, with-some, tells-none, tells-named, tells-empty, tells-byte, tells-range, tells-any, tells-text, tells-match, tells-exists, tells-if}
+use Rattle.machine.specs.ReadyLaws.{kept-below, below-same}
 use Rattle.machine.specs.Ready.{grammarOf, stepLimit, depthLimit, roomLimit, Ready, Node as Numbered, telling, starring}
 
 -- ## Tests on a byte
@@ -50,6 +52,36 @@ left-test (suc at) (a ∷ x) = go (ltb at (length x)) refl ∙ left-test at x
     go : (t : Bool) → ltb at (length x) ≡ t → ltb (suc at) (suc (length x)) ≡ ltb at (length x)
     go true h = lt-ltb (suc at) (suc (length x)) (omega (arith, ltb-true at (length x) h)) ∙ sym h
     go false h = le-ltb (suc at) (suc (length x)) (omega (arith, ltb-false at (length x) h)) ∙ sym h
+
+-- The truth of a condition is the named one.
+pub agrees : (w : Bool) {r v : Bool} → r ≡ v → Bool·beq r w ≡ agree v w
+agrees w {v = v} e = ap (λ r. Bool·beq r w) e ∙ go v w
+  where
+    go : (v w : Bool) → Bool·beq v w ≡ agree v w
+    go true true = refl
+    go true false = refl
+    go false true = refl
+    go false false = refl
+
+-- ## A table's list
+
+module _ (t : ℕ) (state : State) (slots : List ℕ) (held : ℕ) {low : ℕ} (floor : low ≡ getD (envOf state .floors) t 0) where
+  abbrev seen-list : Symbols
+  seen-list = visible (envOf state) t (symbols held slots)
+
+  -- What lies from the floor on is the list, also where nothing below the held symbols was written since.
+  pub in-list : {after : List ℕ} → Below held slots after → listed t low after held ≡ seen-list
+  in-list f = ap (λ σ. reverse (ofTable t (drop low σ))) (kept-below f) ∙ ap (λ n. reverse (ofTable t (drop n (symbols held slots)))) floor
+
+  module _ {seen : ℕ} (e : seen ≡ latestOf t low held slots) where
+    pub unseen : seen ≡ 0 → seen-list ≡ []
+    unseen z = sym (in-list (below-same held slots)) ∙ seen-none t low slots held e z
+
+    pub in-view : 0 < seen → seen-list ≡ symbolAt slots (seen - 1) ∷ listed t low slots (seen - 1)
+    in-view l = sym (in-list (below-same held slots)) ∙ seen-front t low slots held e l
+
+    pub any-seen : ltb 0 seen ≡ some seen-list
+    any-seen = seen-some t low slots held e ∙ ap some (in-list (below-same held slots))
 
 -- ## An entry
 
@@ -82,7 +114,6 @@ module _ {code image input slots : List ℕ} {left number at held spent deepest 
   pub below : Ready code image input slots (left - 1) at held (spent + 1) depth
   below = let r = E .ready in record {
     coded = r .coded;
-    long = r .long;
     few-steps = r .few-steps;
     small-depth = r .small-depth;
     small-room = r .small-room;
@@ -129,6 +160,9 @@ module _ {code image input slots : List ℕ} {left number at held spent deepest 
 
   pub long-text : {place count : ℕ} → Kind (Text place count) → length (take count (drop place image)) ≡ count
   long-text {place} {count} h = length-take count (drop place image) ∙ rw (length-drop place image) (omega (arith, in-image h))
+
+  pub short-text : {place count : ℕ} → Kind (Text place count) → count ≤ 64
+  short-text h = omega (arith, long-text h, fits h .1)
 
   -- ## What is said of the node, by its kind
 

@@ -13,3 +13,4 @@ pub mod ReadyLaws
 pub mod DoneLaws
 pub mod EntryLaws
 pub mod StarLaws
+pub mod EntryNeeds

@@ -48,7 +48,6 @@ pub record Coded (image code : List ℕ) (g : Grammar) : Type 0 where
 -- the limits and the depth it names is at least the depth here, and every held symbol is a part of the input.
 pub record Ready (code image input slots : List ℕ) (left at held steps depth : ℕ) : Type 0 where
   pub coded : Coded image code (grammarOf image)
-  pub long : length code ≡ 523
   pub few-steps : stepLimit code ≤ 1000000
   pub small-depth : depthLimit code ≤ 256
   pub small-room : roomLimit code ≤ 256

@@ -155,7 +155,6 @@ module _ {code image input before after : List ℕ} {left at held s d : ℕ} {r 
       let w = went h (ap (λ o. readBack o after) (sym f) ∙ done .says) in
       record {
         coded = ready .coded;
-        long = ready .long;
         few-steps = ready .few-steps;
         small-depth = ready .small-depth;
         small-room = ready .small-room;
@@ -176,7 +175,6 @@ module _ {code image input before after : List ℕ} {left at held s d : ℕ} {r 
       let w = stayed (ap (λ o. readBack o after) (sym f) ∙ done .says) in
       record {
         coded = ready .coded;
-        long = ready .long;
         few-steps = ready .few-steps;
         small-depth = ready .small-depth;
         small-room = ready .small-room;

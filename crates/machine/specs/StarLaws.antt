@@ -95,7 +95,6 @@ module _ (code image input before : List ℕ) (state : State) (left a at held s 
           record {
             ready = record {
               coded = g .coded;
-              long = g .long;
               few-steps = g .few-steps;
               small-depth = g .small-depth;
               small-room = g .small-room;
