@@ -295,3 +295,28 @@ module _ (image : List ℕ) (bytes : Bytes image) (before : List ℕ) (room : le
         let p = parts-of image g e in
         let same : p .patterns ≡ g .patterns = ap (λ g. g .patterns) (p .whole) in
         patterns-at (p .short) (p .head-is) (p .patterns-are) (p .nodes-are) t (rw same l) ∙ ap (λ l. getD l t 0) same
+
+-- The walk keeps the array's length, after a refusal too.
+pub filled-length : (image before : List ℕ) → length (filled image before) ≡ length before
+filled-length image before = whole (ltb 16384 (length image))
+  where
+    patterned : (h : Head) (at : ℕ) → length (withPatterns image h at before) ≡ length before
+    patterned h at = filling-length (λ t. bounded image 7 0 (h .nodes)) 512 0 (h .tables) at before
+
+    nodes : (h : Head) (at : ℕ) (r : Reading (List ℕ))
+        → length (unless r (withPatterns image h at before) (λ patterns next. withNodes image h next (withPatterns image h at before))) ≡ length before
+    nodes h at (got patterns next) =
+        filling-length (wordAt image (h .tables) (h .conditions) (h .nodes)) 0 0 (h .nodes) next (withPatterns image h at before) ∙ patterned h at
+    nodes h at (fault n p) = patterned h at
+
+    head : (r : Reading Head)
+        → length (unless r before (λ h at. unless (patternsAt image h at) (withPatterns image h at before)
+        (λ patterns next. withNodes image h next (withPatterns image h at before)))) ≡ length before
+    head (got h at) = nodes h at (patternsAt image h at)
+    head (fault n p) = refl
+
+    whole : (b : Bool)
+        → length (pick b before (unless (headAt image) before (λ h at. unless (patternsAt image h at) (withPatterns image h at before)
+        (λ patterns next. withNodes image h next (withPatterns image h at before))))) ≡ length before
+    whole true = refl
+    whole false = head (headAt image)

@@ -138,8 +138,7 @@ module _ {held : ℕ} {before after : List ℕ} {r : ℕ} {T : Told} (done : Don
           → end ≡ pick b (putting after held table at a) after
           → (readBack (openedOf q) end ≡ pick b (came (pass a (σ ++ (symbol table at a ∷ []))) s d) (stopped 14 at s d)) × Below held before end
       stored a s d true l e f =
-          let room′ : held * 3 + 3 ≤ length after = omega (arith, ltb-true held room l, done .frame .long) in
-          (
+          let room′ : held * 3 + 3 ≤ length after = omega (arith, ltb-true held room l, done .frame .long) in (
             ap (λ o. readBack o end) e
                 ∙ ap (λ τ. came (pass a τ) s d) (ap (symbols (held + 1)) f ∙ ap (λ n. symbols n (putting after held table at a)) (add-one held)
                 ∙ putting-more after held table at a room′ ∙ ap (λ τ. τ ++ (symbol table at a ∷ [])) back),

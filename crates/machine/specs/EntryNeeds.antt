@@ -108,8 +108,7 @@ module _ {code image input slots : List ℕ} {left number at held spent deepest 
     pub seen-fits : {after : List ℕ} → Below held slots after
         → (seen - 1 ≤ 255) × ((seen - 1) * 3 + 3 ≤ length after) × Part (length input) (symbolAt after (seen - 1))
     seen-fits f =
-        let l = seen-held in
-        (
+        let l = seen-held in (
           omega (arith, held-lent .0),
           omega (arith, held-lent .1, f .long),
           held-part f (seen - 1) l,

@@ -137,8 +137,7 @@ module _ {code image input before after : List ℕ} {left at held s d : ℕ} {r 
     where
       go : (o : Outcome) → said o → Bounds (length input) at held (roomLimit code) o
       go (Passed a h s′ d′) q =
-          let w = went h q in
-          (
+          let w = went h q in (
             w .on,
             w .inside,
             omega (arith, w .more, symbols-length held before, symbols-length h after),

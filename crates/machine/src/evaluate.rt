@@ -73,7 +73,13 @@ pub fn eval(
     match kind {
         Node::Empty => passed(at, held, steps, depth),
         Node::Byte(b) => given(within(input, at as usize, b, b), at + 1, held, steps, depth),
-        Node::Range(lo, hi) => given(within(input, at as usize, lo, hi), at + 1, held, steps, depth),
+        Node::Range(lo, hi) => given(
+            within(input, at as usize, lo, hi),
+            at + 1,
+            held,
+            steps,
+            depth,
+        ),
         Node::Any => given((at as usize) < input.len(), at + 1, held, steps, depth),
         Node::Text(place, count) => given(
             begins_with(input, at as usize, image, place as usize, count as usize),
@@ -83,20 +89,94 @@ pub fn eval(
             depth,
         ),
         Node::Sequence(a, b) => {
-            sequence(code, image, input, slots, state, below, a, b, at, held, steps, depth)
+            sequence(
+                code,
+                image,
+                input,
+                slots,
+                state,
+                below,
+                a,
+                b,
+                at,
+                held,
+                steps,
+                depth,
+            )
         }
         Node::Choice(a, b) => {
-            choice(code, image, input, slots, state, below, a, b, at, held, steps, depth)
+            choice(
+                code,
+                image,
+                input,
+                slots,
+                state,
+                below,
+                a,
+                b,
+                at,
+                held,
+                steps,
+                depth,
+            )
         }
-        Node::Star(a) => star(code, image, input, slots, state, below, a, at, held, steps, depth),
+        Node::Star(a) => star(
+            code,
+            image,
+            input,
+            slots,
+            state,
+            below,
+            a,
+            at,
+            held,
+            steps,
+            depth,
+        ),
         Node::Not(a) => {
-            let r = eval(code, image, input, slots, state, below, a, at, held, steps, depth);
+            let r = eval(
+                code,
+                image,
+                input,
+                slots,
+                state,
+                below,
+                a,
+                at,
+                held,
+                steps,
+                depth,
+            );
             negated(at, held, r)
         }
-        Node::Call(a) => eval(code, image, input, slots, state, below, a, at, held, steps, depth),
+        Node::Call(a) => eval(
+            code,
+            image,
+            input,
+            slots,
+            state,
+            below,
+            a,
+            at,
+            held,
+            steps,
+            depth,
+        ),
         Node::Def(t) => {
             let pattern = code[(512 + t) as usize];
-            let r = eval(code, image, input, slots, state, below, pattern, at, held, steps, depth);
+            let r = eval(
+                code,
+                image,
+                input,
+                slots,
+                state,
+                below,
+                pattern,
+                at,
+                held,
+                steps,
+                depth,
+            );
             defined(code[522], slots, t, at, held, r)
         }
         Node::Match(t) => {
@@ -112,7 +192,19 @@ pub fn eval(
                 return failed(steps, depth);
             }
             let pattern = code[(512 + t) as usize];
-            let r = eval(code, image, input, slots, state, below, pattern, at, held, steps, depth);
+            let r = eval(
+                code,
+                image,
+                input,
+                slots,
+                state,
+                below,
+                pattern,
+                at,
+                held,
+                steps,
+                depth,
+            );
             is_latest(input, slots, seen - 1, at, held, r)
         }
         Node::Isa(t) => {
@@ -122,7 +214,19 @@ pub fn eval(
                 return failed(steps, depth);
             }
             let pattern = code[(512 + t) as usize];
-            let r = eval(code, image, input, slots, state, below, pattern, at, held, steps, depth);
+            let r = eval(
+                code,
+                image,
+                input,
+                slots,
+                state,
+                below,
+                pattern,
+                at,
+                held,
+                steps,
+                depth,
+            );
             is_some(input, slots, t, low, at, held, r)
         }
         Node::Exists(t) => {
@@ -130,18 +234,54 @@ pub fn eval(
             given(0 < seen, at, held, steps, depth)
         }
         Node::Block(t, a) => {
-            let r = eval(code, image, input, slots, state, below, a, at, held, steps, depth);
+            let r = eval(
+                code,
+                image,
+                input,
+                slots,
+                state,
+                below,
+                a,
+                at,
+                held,
+                steps,
+                depth,
+            );
             closed(slots, t, held, r)
         }
         Node::Local(t, a) => {
             let hidden = with_floor(state, t, held);
-            let r = eval(code, image, input, slots, hidden, below, a, at, held, steps, depth);
+            let r = eval(
+                code,
+                image,
+                input,
+                slots,
+                hidden,
+                below,
+                a,
+                at,
+                held,
+                steps,
+                depth,
+            );
             closed(slots, t, held, r)
         }
         Node::If(c, w) => given(truth(state, c) == w, at, held, steps, depth),
         Node::On(c, w, a) => {
             let switched = with_truth(state, c, w);
-            let r = eval(code, image, input, slots, switched, below, a, at, held, steps, depth);
+            let r = eval(
+                code,
+                image,
+                input,
+                slots,
+                switched,
+                below,
+                a,
+                at,
+                held,
+                steps,
+                depth,
+            );
             restored(held, r)
         }
     }
@@ -167,7 +307,19 @@ fn sequence(
         (andThen (telling (now (code .entry)) (now (image .entry)) (now (input .entry)) state left steps depth (Grammar·node (grammarOf (now (image .entry))) a) at (symbols held (now (slots .entry))))
         (λ q τ s d. telling (now (code .entry)) (now (image .entry)) (now (input .entry)) state left s d (Grammar·node (grammarOf (now (image .entry))) b) q τ)) ⌝ }
 {
-    let r = eval(code, image, input, slots, state, left, a, at, held, steps, depth);
+    let r = eval(
+        code,
+        image,
+        input,
+        slots,
+        state,
+        left,
+        a,
+        at,
+        held,
+        steps,
+        depth,
+    );
     let first = opened(r);
     let Outcome::Passed {
         at: next,
@@ -178,7 +330,19 @@ fn sequence(
     else {
         return r;
     };
-    eval(code, image, input, slots, state, left, b, next, more, spent, deepest)
+    eval(
+        code,
+        image,
+        input,
+        slots,
+        state,
+        left,
+        b,
+        next,
+        more,
+        spent,
+        deepest,
+    )
 }
 
 // A; or, where a fails, b from the same place with the same symbols.
@@ -201,7 +365,19 @@ fn choice(
         (orElse (telling (now (code .entry)) (now (image .entry)) (now (input .entry)) state left steps depth (Grammar·node (grammarOf (now (image .entry))) a) at (symbols held (now (slots .entry))))
         (λ s d. telling (now (code .entry)) (now (image .entry)) (now (input .entry)) state left s d (Grammar·node (grammarOf (now (image .entry))) b) at (symbols held (now (slots .entry))))) ⌝ }
 {
-    let r = eval(code, image, input, slots, state, left, a, at, held, steps, depth);
+    let r = eval(
+        code,
+        image,
+        input,
+        slots,
+        state,
+        left,
+        a,
+        at,
+        held,
+        steps,
+        depth,
+    );
     let first = opened(r);
     let Outcome::Failed {
         steps: spent,
@@ -210,7 +386,19 @@ fn choice(
     else {
         return r;
     };
-    eval(code, image, input, slots, state, left, b, at, held, spent, deepest)
+    eval(
+        code,
+        image,
+        input,
+        slots,
+        state,
+        left,
+        b,
+        at,
+        held,
+        spent,
+        deepest,
+    )
 }
 
 // Rounds of a until it fails, of which the first is charged already; the rounds that passed are kept.
@@ -236,7 +424,19 @@ fn star(
     let mut charged = steps;
     let mut reached = depth;
     loop {
-        let r = eval(code, image, input, slots, state, left, a, here, stored, charged, reached);
+        let r = eval(
+            code,
+            image,
+            input,
+            slots,
+            state,
+            left,
+            a,
+            here,
+            stored,
+            charged,
+            reached,
+        );
         let round = opened(r);
         let Outcome::Passed {
             at: next,

@@ -112,15 +112,7 @@ pub fn is_latest(input: &[u8], slots: &[u32], number: u32, at: u32, held: u32, r
 }
 
 // Isa: the same with some symbol of the table's list.
-pub fn is_some(
-    input: &[u8],
-    slots: &[u32],
-    table: u32,
-    low: u32,
-    at: u32,
-    held: u32,
-    r: u64,
-) -> u64
+pub fn is_some(input: &[u8], slots: &[u32], table: u32, low: u32, at: u32, held: u32, r: u64) -> u64
     requires { ⌜ (length (now input) ≤ 65535) × (held ≤ 256) × (held * 3 ≤ length (now slots)) × Parts (length (now input)) held (now slots) × Bounds (length (now input)) at 0 256 (openedOf r) ⌝ }
     ensures { λ q. ⌜ openedOf q ≡ comparedOf (λ end. among (now (input .entry)) (part (now (input .entry)) at end) (listed table low (now (slots .entry)) held)) held (openedOf r) ⌝ }
 {

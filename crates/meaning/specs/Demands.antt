@@ -112,7 +112,7 @@ module _ (g : Grammar) (x : List ℕ) (B D R : ℕ) where
   exactly : {o : Outcome} {c : Cost} → fromStart g x B D R ≡ ran o c → Recognises g x o c × Within c D B R
   exactly {o} {c} h = exact g x outset (node g (g .start)) 0 [] R D B o c .0 h
 
-  number-of : {n s : ℕ} {c : Cost} → fromStart g x B D R ≡ stopped n s c → (12 ≤ n) × (n ≤ 15)
+  pub number-of : {n s : ℕ} {c : Cost} → fromStart g x B D R ≡ stopped n s c → (12 ≤ n) × (n ≤ 15)
   number-of {n} {s} {c} h = stop-number (cut-exactly g x outset (node g (g .start)) 0 [] R D B n s c .0 h)
 
   machine-2 : Demand2 g x B D R (answerOf (fromStart g x B D R))
@@ -200,7 +200,7 @@ both true b e = (refl, e)
 both false b e = let z : _≡_ {A = ℕ} 0 1 = cc in absurd (omega arith)
 
 -- The test of the limits is their ranges.
-in-range : {B D R : ℕ} → Ranges B D R → allowed B D R ≡ true
+pub in-range : {B D R : ℕ} → Ranges B D R → allowed B D R ≡ true
 in-range {B} {D} {R} h =
     rw (
       le-leb 1 B (h .some-steps),
@@ -211,7 +211,7 @@ in-range {B} {D} {R} h =
       le-leb R 256 (h .small-room),
     )
 
-of-range : {B D R : ℕ} → allowed B D R ≡ true → Ranges B D R
+pub of-range : {B D R : ℕ} → allowed B D R ≡ true → Ranges B D R
 of-range {B} {D} {R} h =
     let s = both (between 1 1000000 B) (between 1 256 D and between 0 256 R) h in
     let t = both (between 1 256 D) (between 0 256 R) (s .1) in
@@ -226,7 +226,7 @@ of-range {B} {D} {R} h =
       small-room = leb-true R 256 (r .1);
     }
 
-out-of-range : (B D R : ℕ) → ¬ (Ranges B D R) → allowed B D R ≡ false
+pub out-of-range : (B D R : ℕ) → ¬ (Ranges B D R) → allowed B D R ≡ false
 out-of-range B D R h = go (allowed B D R) refl
   where
     go : (b : Bool) → allowed B D R ≡ b → b ≡ false

@@ -14,7 +14,6 @@ use Rattle.machine.proofs.evaluate.+choice+eval+sequence+star.Proof.Cho
 use Rattle.machine.proofs.evaluate.+choice+eval+sequence+star.Proof.Eval as eval-needs
 use Rattle.machine.proofs.evaluate.+choice+eval+sequence+star.Proof.Sequence as sequence-needs
 use Rattle.machine.proofs.evaluate.+choice+eval+sequence+star.Proof.Star as star-needs
-
 mod Cycle
 mod Choice
 mod Eval

@@ -1,0 +1,198 @@
+-- What a run's outcome answers and leaves is what the definition says.
+use Prim.Native.Nat.{ℕ, zero, suc, _+_, _-_, _*_, _≤_, _<_, max}
+use mathlib.Core.Path.{_≡_, refl, ap, sym, _∙_, subst}
+use mathlib.Core.List.{List, [], _∷_, _++_, append-assoc, append-nil}
+use native.Mathlib.Omega.{arith}
+use lib.ListN.{length, take, drop, getD, replicate, length-take, length-drop}
+use lib.Seq.{take-suc}
+use Rattle.grammar.specs.Grammar.{Grammar, size, node}
+use Rattle.meaning.specs.State.{Symbol, State, outset}
+use Rattle.meaning.specs.Outcome.{pass, fail}
+use Rattle.meaning.specs.Cost.{Cost}
+use Rattle.meaning.specs.Run.{Result, ran, refused, run}
+use Rattle.meaning.specs.Recognise.{Answer, answerOf, flat, filled, slotsAfter, fromStart}
+use Rattle.meaning.specs.Demands.{number-of}
+use Rattle.machine.specs.declared.outcome.Outcome as o
+use Rattle.machine.specs.declared.outcome.Outcome.the-variants as ov
+use Rattle.machine.specs.Slots.{symbolAt, symbols}
+use Rattle.machine.specs.SlotsLaws.{symbols-length}
+use Rattle.machine.specs.Packed.{openedOf}
+use Rattle.machine.specs.declared.state.State as st
+use Rattle.machine.specs.Held.{envOf}
+use Rattle.machine.specs.Turned.{Bounds}
+use Rattle.machine.specs.Told.{carry, tells}
+use Rattle.machine.specs.Ready.{grammarOf, stepLimit, depthLimit, roomLimit, Ready, Node as Numbered, readBack, Done, telling}
+use Rattle.machine.specs.ReadyLaws.{bounds-of}
+use Rattle.yarnspire.specs.declared.answer.Answer as face
+use Rattle.yarnspire.specs.Answer.{numbers, sixOf, Listed}
+use Rattle.yarnspire.specs.Ended.{answerFor, keptOf, Kept, Runs, leftBy, Ran}
+
+-- The first h symbols laid flat are the first 3h slot numbers.
+flat-append : (σ : State) (s : Symbol) → flat (σ ++ (s ∷ [])) ≡ flat σ ++ (s .table ∷ s .from ∷ s .to ∷ [])
+flat-append [] s = refl
+flat-append (t ∷ σ) s = ap (λ l. t .table ∷ t .from ∷ t .to ∷ l) (flat-append σ s)
+
+three-more : (n : ℕ) (l : List ℕ) → n + 3 ≤ length l
+    → take (suc (suc (suc n))) l ≡ take n l ++ (getD l n 0 ∷ getD l (n + 1) 0 ∷ getD l (n + 2) 0 ∷ [])
+three-more n l h =
+    let one = take-suc l n 0 (omega arith) in
+    let two = take-suc l (suc n) 0 (omega arith) in
+    let three = take-suc l (suc (suc n)) 0 (omega arith) in
+    let a : suc n ≡ n + 1 = omega arith in
+    let b : suc (suc n) ≡ n + 2 = omega arith in
+    three ∙ ap (λ f. f ++ (getD l (suc (suc n)) 0 ∷ [])) (two ∙ ap (λ f. f ++ (getD l (suc n) 0 ∷ [])) one
+    ∙ append-assoc (take n l) (getD l n 0 ∷ []) (getD l (suc n) 0 ∷ []))
+    ∙ append-assoc (take n l) (getD l n 0 ∷ getD l (suc n) 0 ∷ []) (getD l (suc (suc n)) 0 ∷ [])
+    ∙ ap (λ j. take n l ++ (getD l n 0 ∷ getD l j 0 ∷ getD l (suc (suc n)) 0 ∷ [])) a
+    ∙ ap (λ j. take n l ++ (getD l n 0 ∷ getD l (n + 1) 0 ∷ getD l j 0 ∷ [])) b
+
+pub flat-symbols : (h : ℕ) (slots : List ℕ) → h * 3 ≤ length slots → flat (symbols h slots) ≡ take (h * 3) slots
+unfolding symbols
+flat-symbols zero slots l = refl
+flat-symbols (suc h) slots l =
+    flat-append (symbols h slots) (symbolAt slots h)
+    ∙ ap (λ f. f ++ (getD slots (h * 3) 0 ∷ getD slots (h * 3 + 1) 0 ∷ getD slots (h * 3 + 2) 0 ∷ [])) (flat-symbols h slots (omega arith))
+    ∙ sym (three-more (h * 3) slots (omega arith)) ∙ ap (λ n. take n slots) more
+  where
+    more : suc (suc (suc (h * 3))) ≡ suc h * 3
+    more = omega arith
+
+-- The first 3R slots, and then those that were not lent, are the slots after the call.
+pub left-and-rest : (R : ℕ) (r : Result) (slots : List ℕ) → leftBy R r ++ drop (3 * R) slots ≡ slotsAfter R r slots
+left-and-rest R (ran (pass n τ) c) slots = append-assoc (flat τ) (replicate (3 * R - 3 * length τ) 0) (drop (3 * R) slots)
+left-and-rest R (ran fail c) slots = let z : 3 * R ≡ 3 * R - 0 = omega arith in ap (λ k. replicate k 0 ++ drop (3 * R) slots) z
+left-and-rest R (refused n p c) slots = let z : 3 * R ≡ 3 * R - 0 = omega arith in ap (λ k. replicate k 0 ++ drop (3 * R) slots) z
+
+module _ (g : Grammar) (x : List ℕ) (B D R : ℕ) (slots : List ℕ) (lent : length slots ≡ R * 3) (out : o.Outcome)
+    (fits : keptOf out ≤ length slots)
+    (says : readBack out slots ≡ tells g x B D R D 0 0 outset (node g (g .start)) 0 []) where
+  abbrev X : Result
+  X = fromStart g x B D R
+
+  -- With nothing spent before, the tally is the cost.
+  from-start : readBack out slots ≡ carry 0 0 0 X
+  unfolding tells
+  from-start = let z : D - D ≡ 0 = omega arith in let b : B - 0 ≡ B = omega arith in rw (z, b) at says
+
+  -- An outcome and what the run came to.
+  data Ends : o.Outcome → Result → Type 0 where
+    passing : {n n′ h s d : ℕ} {τ : State} {c : Cost} → n ≡ n′ → symbols h slots ≡ τ → s ≡ c .steps → d ≡ c .depth
+        → Ends (ov.Passed n h s d) (ran (pass n′ τ) c)
+    failing : {s d : ℕ} {c : Cost} → s ≡ c .steps → d ≡ c .depth → Ends (ov.Failed s d) (ran fail c)
+    stopping : {k k′ p p′ s d : ℕ} {c : Cost} → k ≡ k′ → p ≡ p′ → s ≡ c .steps → d ≡ c .depth → Ends (ov.Refused k p s d) (refused k′ p′ c)
+
+  ends : (out : o.Outcome) (r : Result) → readBack out slots ≡ carry 0 0 0 r → Ends out r
+  ends (ov.Passed n h s d) (ran (pass n′ τ) c) e = let es : s ≡ 0 + c .steps = cc in let ed : d ≡ max 0 (0 + c .depth) = cc in let en : n ≡ n′ = cc in let eτ : symbols h slots ≡ τ = cc in let fs : s ≡ c .steps = omega arith in let fd : d ≡ c .depth = omega arith in passing en eτ fs fd
+  ends (ov.Passed n h s d) (ran fail c) e = let z : _≡_ {A = ℕ} 0 1 = cc in absurd (omega arith)
+  ends (ov.Passed n h s d) (refused k p c) e = let z : _≡_ {A = ℕ} 0 1 = cc in absurd (omega arith)
+  ends (ov.Failed s d) (ran (pass n τ) c) e = let z : _≡_ {A = ℕ} 0 1 = cc in absurd (omega arith)
+  ends (ov.Failed s d) (ran fail c) e = let es : s ≡ 0 + c .steps = cc in let ed : d ≡ max 0 (0 + c .depth) = cc in let fs : s ≡ c .steps = omega arith in let fd : d ≡ c .depth = omega arith in failing fs fd
+  ends (ov.Failed s d) (refused k p c) e = let z : _≡_ {A = ℕ} 0 1 = cc in absurd (omega arith)
+  ends (ov.Refused k p s d) (ran (pass n τ) c) e = let z : _≡_ {A = ℕ} 0 1 = cc in absurd (omega arith)
+  ends (ov.Refused k p s d) (ran fail c) e = let z : _≡_ {A = ℕ} 0 1 = cc in absurd (omega arith)
+  ends (ov.Refused k p s d) (refused k′ p′ c) e = let es : s ≡ 0 + c .steps = cc in let ed : d ≡ max 0 (0 + c .depth) = cc in let ek : k ≡ k′ = cc in let ep : p ≡ p′ = cc in let fs : s ≡ c .steps = omega arith in let fd : d ≡ c .depth = omega arith in stopping ek ep fs fd
+
+  ended : Ends out X
+  ended = ends out X from-start
+
+  numbers-as : {k k′ n n′ s s′ d d′ h h′ p p′ : ℕ} → k ≡ k′ → n ≡ n′ → s ≡ s′ → d ≡ d′ → h ≡ h′ → p ≡ p′
+      → numbers k n s d h p ≡ numbers k′ n′ s′ d′ h′ p′
+  numbers-as a b c d e f = λ i. numbers (a i) (b i) (c i) (d i) (e i) (f i)
+
+  pub ends-six : sixOf (answerFor out) ≡ answerOf X
+  ends-six = go ended
+    where
+      go : {w : o.Outcome} {r : Result} → Ends w r → sixOf (answerFor w) ≡ answerOf r
+      go (passing {h = h} a b e f) = numbers-as refl a e f (sym (symbols-length h slots) ∙ ap length b) refl
+      go (failing e f) = numbers-as refl refl e f refl refl
+      go (stopping a b e f) = numbers-as a refl e f refl b
+
+  -- What is kept and the zeros behind it.
+  pub ends-left : take (keptOf out) slots ++ replicate (length slots - keptOf out) 0 ≡ leftBy R X
+  ends-left = go ended fits
+    where
+      none : take 0 slots ++ replicate (length slots - 0) 0 ≡ replicate (3 * R) 0
+      none = let z : length slots - 0 ≡ 3 * R = omega (arith, lent) in ap (λ k. replicate k 0) z
+
+      go : {w : o.Outcome} {r : Result} → Ends w r → keptOf w ≤ length slots → take (keptOf w) slots ++ replicate (length slots - keptOf w) 0 ≡ leftBy R r
+      go (passing {h = h} {τ = τ} a b e f) l =
+          let z : length slots - h * 3 ≡ 3 * R - 3 * length τ = omega (arith, lent, sym (symbols-length h slots) ∙ ap length b) in
+          ap (λ t. t ++ replicate (length slots - h * 3) 0) (sym (flat-symbols h slots l) ∙ ap flat b) ∙ ap (λ k. flat τ ++ replicate k 0) z
+      go (failing e f) l = none
+      go (stopping a b e f) l = none
+
+  pub ends-listed : Listed (answerFor out)
+  ends-listed = go X refl ended
+    where
+      go : {w : o.Outcome} (r : Result) → fromStart g x B D R ≡ r → Ends w r → Listed (answerFor w)
+      go _ q (passing a b e f) = tt
+      go _ q (failing e f) = tt
+      go _ q (stopping a b e f) = let l = number-of g x B D R q in (omega (arith, l, a), omega (arith, l, a))
+
+-- ## The run from the start
+
+module _ {code image input slots : List ℕ} {start : ℕ} (runs : Runs code image input slots start) where
+  abbrev g : Grammar
+  g = grammarOf image
+
+  -- It may be asked for: nothing is spent and nothing is held.
+  pub start-ready : Ready code image input slots (depthLimit code) 0 0 0 0
+  unfolding symbols
+  start-ready = record {
+    coded = runs .coded;
+    few-steps = runs .ranges .few-steps;
+    small-depth = runs .ranges .small-depth;
+    small-room = runs .ranges .small-room;
+    lent = runs .lent;
+    short = runs .short;
+    place = omega arith;
+    room = omega arith;
+    spent = omega arith;
+    deep = omega arith;
+    reached = omega arith;
+    entered = omega arith;
+    parts = λ s m. elim m [ ];
+  }
+
+  pub start-numbered : Numbered image start
+  start-numbered = subst (λ n. n < size g) (sym (runs .begins)) (runs .coded .sound .start-named)
+
+  module _ (state : st.State) (truths : envOf state ≡ outset) {after : List ℕ} {r : ℕ}
+      (done : Done 0 slots after r (telling code image input state (depthLimit code) 0 0 (node g start) 0 (symbols 0 slots))) where
+    bounded : Bounds (length input) 0 0 (roomLimit code) (openedOf r)
+    bounded = bounds-of state (node g start) start-ready done
+
+    pub start-kept : Kept (length after) (openedOf r)
+    start-kept = go (openedOf r) bounded
+      where
+        go : (w : o.Outcome) → Bounds (length input) 0 0 (roomLimit code) w → Kept (length after) w
+        go (ov.Passed a h s d) b = (omega (arith, b .3, runs .ranges .small-room), omega (arith, b .3, done .frame .long, runs .lent))
+        go (ov.Failed s d) b = tt
+        go (ov.Refused n p s d) b = tt
+
+    kept-fits : keptOf (openedOf r) ≤ length after
+    kept-fits = go (openedOf r) start-kept
+      where
+        go : (w : o.Outcome) → Kept (length after) w → keptOf w ≤ length after
+        go (ov.Passed a h s d) b = b .1
+        go (ov.Failed s d) b = omega arith
+        go (ov.Refused n p s d) b = omega arith
+
+    says : readBack (openedOf r) after ≡ tells g input (stepLimit code) (depthLimit code) (roomLimit code) (depthLimit code) 0 0 outset (node g (g .start)) 0 []
+    unfolding symbols
+    says =
+        done .says
+        ∙ ap (λ v. tells g input (stepLimit code) (depthLimit code) (roomLimit code) (depthLimit code) 0 0 v (node g start) 0 []) truths
+        ∙ ap (λ n. tells g input (stepLimit code) (depthLimit code) (roomLimit code) (depthLimit code) 0 0 outset (node g n) 0 []) (runs .begins)
+
+    -- What it answers and leaves.
+    pub start-ends : {a : face.Answer} {end : List ℕ} → a ≡ answerFor (openedOf r)
+        → end ≡ take (keptOf (openedOf r)) after ++ replicate (length after - keptOf (openedOf r)) 0 → Ran code image input end a
+    start-ends e f =
+        let lent = done .frame .long ∙ runs .lent in
+        record {
+          answers = ap sixOf e ∙ ends-six g input (stepLimit code) (depthLimit code) (roomLimit code) after lent (openedOf r) kept-fits says;
+          leaves = f ∙ ends-left g input (stepLimit code) (depthLimit code) (roomLimit code) after lent (openedOf r) kept-fits says;
+          listed =
+              subst Listed (sym e) (ends-listed g input (stepLimit code) (depthLimit code) (roomLimit code) after lent (openedOf r) kept-fits says);
+        }

@@ -1,0 +1,28 @@
+// What check and recognise answer.
+
+// An image is good, or refused with the number and the place of its first fault.
+pub enum Verdict {
+    Good,
+    Refused { number: u32, place: u32 },
+}
+
+// Accepted, with how many bytes of the input; failed; or refused, with a number from 1 to 15 and a place. With the steps and the greatest
+// depth as far as charged, and with the number of symbols that the slots hold.
+pub enum Answer {
+    Accepted {
+        consumed: u32,
+        steps: u32,
+        depth: u32,
+        symbols: u32,
+    },
+    Failed {
+        steps: u32,
+        depth: u32,
+    },
+    Refused {
+        number: u32,
+        place: u32,
+        steps: u32,
+        depth: u32,
+    },
+}

@@ -1,0 +1,109 @@
+// The run behind the entry checks.
+ghost use mathlib.Core.Path.{_≡_};
+ghost use mathlib.Core.List.{_++_};
+ghost use Prim.Native.Nat.{_-_};
+ghost use lib.ListN.{length, take, replicate};
+ghost use Rattle.meaning.specs.Recognise.{allowed as Recognise·allowed};
+ghost use Rattle.machine.specs.Packed.{openedOf};
+ghost use Rattle.yarnspire.specs.Ended.{answerFor, keptOf, Kept, Runs, Ran};
+use crate::answer::Answer;
+use machine::evaluate::eval;
+use machine::outcome::Outcome;
+use machine::outcome::opened;
+use machine::slots::zero;
+use machine::state::State;
+
+// Whether each limit is within its range.
+pub(crate) fn allowed(steps: u32, depth: u32, room: u32) -> bool
+    ensures { λ r. ⌜ r ≡ Recognise·allowed steps depth room ⌝ }
+{
+    if steps == 0 {
+        return false;
+    }
+    if 1000000 < steps {
+        return false;
+    }
+    if depth == 0 {
+        return false;
+    }
+    if 256 < depth {
+        return false;
+    }
+    if 256 < room {
+        return false;
+    }
+    true
+}
+
+// What an outcome answers; the slots keep its symbols, and zeros follow.
+fn ended(slots: &mut [u32], r: u64) -> Answer
+    requires { ⌜ Kept (length (now slots)) (openedOf r) ⌝ }
+    ensures { λ a. ⌜ (a ≡ answerFor (openedOf r)) × (now (slots .exit) ≡ take (keptOf (openedOf r)) (now (slots .entry)) ++ replicate (length (now (slots .entry)) - keptOf (openedOf r)) 0) ⌝ }
+{
+    let outcome = opened(r);
+    match outcome {
+        Outcome::Passed {
+            at,
+            held,
+            steps,
+            depth,
+        } => {
+            zero(slots, (held * 3) as usize);
+            Answer::Accepted {
+                consumed: at,
+                steps,
+                depth,
+                symbols: held,
+            }
+        }
+        Outcome::Failed { steps, depth } => {
+            zero(slots, 0);
+            Answer::Failed { steps, depth }
+        }
+        Outcome::Refused {
+            number,
+            place,
+            steps,
+            depth,
+        } => {
+            zero(slots, 0);
+            Answer::Refused {
+                number,
+                place,
+                steps,
+                depth,
+            }
+        }
+    }
+}
+
+// Runs the start node from the input's start, with every condition true and no symbol held, over exactly the slots that the room allows.
+pub(crate) fn run(
+    code: &[u32; 523],
+    image: &[u8],
+    input: &[u8],
+    slots: &mut [u32],
+    start: u32,
+) -> Answer
+    requires { ⌜ Runs (now code) (now image) (now input) (now slots) start ⌝ }
+    ensures { λ a. ⌜ Ran (now (code .entry)) (now (image .entry)) (now (input .entry)) (now (slots .exit)) a ⌝ }
+{
+    let state = State {
+        truths: [true; 8],
+        floors: [0u16; 8],
+    };
+    let r = eval(
+        code,
+        image,
+        input,
+        slots,
+        state,
+        code[521],
+        start,
+        0,
+        0,
+        0,
+        0,
+    );
+    ended(slots, r)
+}
