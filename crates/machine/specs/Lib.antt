@@ -14,3 +14,4 @@ pub mod DoneLaws
 pub mod EntryLaws
 pub mod StarLaws
 pub mod EntryNeeds
+pub mod Unique

@@ -4,3 +4,5 @@ pub mod Ended
 pub mod Promise
 pub mod EndLaws
 pub mod PromiseLaws
+pub mod Unique
+pub mod Raised
