@@ -1,7 +1,7 @@
 -- What recognise answers, and what the slots hold after it, for every image, input, limits and slot buffer. 01, "Refusal numbers" and
 -- the paragraph below its table.
 use Prim.Native.Nat.{ℕ, zero, suc, _+_, _-_, _*_}
-use mathlib.Core.Bool.{Bool, true, false}
+use mathlib.Core.Bool.{Bool, true, false, not}
 use mathlib.Core.List.{List, [], _∷_, _++_}
 use lib.Dec.{leb, ltb}
 use lib.ListN.{length, drop, replicate}
@@ -71,10 +71,9 @@ allowed B D R = between 1 1000000 B and (between 1 256 D and between 0 256 R)
 abbrev pub onGood : Grammar → (input : List ℕ) (B D R : ℕ) (slots : List ℕ) → Called
 onGood g input B D R slots =
     pick (ltb 65535 (length input)) (refusal 9 0 slots)
-    (pick (allowed B D R)
+    (pick (not (allowed B D R)) (refusal 10 0 slots)
     (pick (ltb (length slots) (3 * R)) (refusal 11 0 slots)
-    (record { answer = answerOf (fromStart g input B D R); slots = slotsAfter R (fromStart g input B D R) slots }))
-    (refusal 10 0 slots))
+    (record { answer = answerOf (fromStart g input B D R); slots = slotsAfter R (fromStart g input B D R) slots })))
 
 -- "The image is read from front to back; the first fault is the answer. Then 9, 10, 11, then the run."
 abbrev pub onImage : Checked → (input : List ℕ) (B D R : ℕ) (slots : List ℕ) → Called

@@ -1,5 +1,7 @@
 -- 01's number and values for each case of an answer. "An answer carries: kind, consumed, steps, greatest depth entered, symbols held, place."
 use Prim.Native.Nat.{ℕ, _≤_}
+use mathlib.Core.Path.{_≡_}
+use mathlib.Core.Logic.{_⊎_}
 use Rattle.image.specs.Image as i
 use Rattle.meaning.specs.Recognise as m
 use Rattle.yarnspire.specs.declared.answer.Verdict.{Verdict}
@@ -32,6 +34,10 @@ abbrev pub sixOf : Answer → m.Answer
 sixOf (Accepted consumed steps depth symbols) = numbers 0 consumed steps depth symbols 0
 sixOf (Failed steps depth) = numbers 99 0 steps depth 0 0
 sixOf (Refused number place steps depth) = numbers number 0 steps depth 0 place
+
+-- Accepted, failed, or a refusal of the list.
+abbrev pub Kind : ℕ → Type 0
+Kind kind = (kind ≡ 0) ⊎ (kind ≡ 99) ⊎ ((1 ≤ kind) × (kind ≤ 15))
 
 -- A refusal's number is one of the list, never 0 or 99.
 abbrev pub Listed : Answer → Type 0

@@ -20,8 +20,9 @@ use Rattle.image.specs.declared.walk.Loaded.{Loaded}
 use Rattle.image.specs.declared.walk.Loaded.the-variants.{Good as Whole, Refused as Bad}
 use Rattle.meaning.specs.State.{outset}
 use Rattle.meaning.specs.Unique.{true≢false}
-use Rattle.meaning.specs.Exact.{exact, at-most-one}
+use Rattle.meaning.specs.Exact.{exact, cut-exactly, at-most-one}
 use Rattle.meaning.specs.Outcome.{pass, fail}
+use Rattle.meaning.specs.Cost.{Cost}
 use Rattle.meaning.specs.Run.{Result, ran, refused as stopped}
 use Rattle.meaning.specs.Forward.{forward, ahead-pass}
 use Rattle.meaning.specs.Recognise.{Answer, allowed, answerOf, refusal, slotsAfter, fromStart, recognise}
@@ -31,10 +32,10 @@ use Rattle.yarnspire.specs.declared.answer.Verdict.{Verdict}
 use Rattle.yarnspire.specs.declared.answer.Verdict.the-variants.{Good, Refused as Faulty}
 use Rattle.yarnspire.specs.declared.answer.Answer as code
 use Rattle.yarnspire.specs.declared.answer.Answer.the-variants.{Refused}
-use Rattle.yarnspire.specs.Answer.{verdictOf, sixOf, Listed}
+use Rattle.yarnspire.specs.Answer.{verdictOf, numbers, Kind, sixOf, Listed}
 use Rattle.yarnspire.specs.Ended.{Runs, leftBy, resultOf, Ran}
 use Rattle.yarnspire.specs.EndLaws.{left-and-rest}
-use Rattle.yarnspire.specs.Promise.{Checks, Answers}
+use Rattle.yarnspire.specs.Promise.{Checks, Answers, Recognised}
 
 -- ## Check
 
@@ -82,44 +83,58 @@ permitted {ok = ok} e h = d.of-range (sym e ∙ go ok h)
 pub disallowed : {B D R : ℕ} {ok : Bool} → ok ≡ allowed B D R → not ok ≡ true → ¬ (d.Ranges B D R)
 disallowed e h r = true≢false (sym h ∙ ap not (e ∙ d.in-range r))
 
-pub answers : {image input : List ℕ} {B D R : ℕ} {before after : List ℕ} {a : Answer}
+-- What is consumed is a front of the input; what a run comes to is derived or cut short.
+inside-start : (g : Grammar) (input : List ℕ) (B D R : ℕ) (r : Result) → fromStart g input B D R ≡ r → answerOf r .consumed ≤ length input
+inside-start g input B D R (ran (pass n τ) c) e =
+    ahead-pass (forward g input (exact g input outset (node g (g .start)) 0 [] R D B (pass n τ) c .0 e .0) (omega arith)) .1
+inside-start g input B D R (ran fail c) e = omega arith
+inside-start g input B D R (stopped n p c) e = omega arith
+
+ends-start : (g : Grammar) (input : List ℕ) (B D R : ℕ) (r : Result) → fromStart g input B D R ≡ r
+    → d.Derivable g input B D R ⊎ ((n place : ℕ) × (c : Cost) × d.Stops g input B D R n place c)
+ends-start g input B D R (ran o c) e =
+    let w = exact g input outset (node g (g .start)) 0 [] R D B o c .0 e in inl (o, c, w .0, w .1)
+ends-start g input B D R (stopped n p c) e = inr (n, p, c, cut-exactly g input outset (node g (g .start)) 0 [] R D B n p c .0 e)
+
+pub answers : {image input : List ℕ} {B D R : ℕ} {before after : List ℕ} {a : Answer} → Bytes image
     → record { answer = a; slots = after } ≡ recognise image input B D R before → Answers image input B D R before after a
-answers {image} {input} {B} {D} {R} {before} e = record {
+answers {image} {input} {B} {D} {R} {before} {after} {a} bytes e = record {
   is = e;
+  kind = subst (λ k. Kind (k .answer .kind)) (sym e) (d.kinds image input B D R before bytes);
+  inside = subst (λ k. k .answer .consumed ≤ length input) (sym e) (inside (d.answered image input B D R before bytes));
+  entry = entry (d.answered image input B D R before bytes);
   once = λ g. at-most-one g input outset (node g (g .start)) 0 [];
+  ends = λ g. ends-start g input B D R (fromStart g input B D R) refl;
+  fixed = λ g E. subst (d.Fixed g input B D R before) (sym e) (d.fixed E);
   demand-2 = λ g E. subst (λ k. d.Demand2 g input B D R (k .answer)) (sym e) (d.demand-2 E);
   demand-3 = λ g E. subst (λ k. d.Demand3 g input B D R (k .answer) before (k .slots)) (sym e) (d.demand-3 E);
-  fixed = λ g E. subst (d.Fixed g input B D R before) (sym e) (d.fixed E);
 }
+  where
+    Said : Type 0
+    Said = ((g : Grammar) × d.Entered image g input B D R before)
+        ⊎ ((n place : ℕ) × (1 ≤ n) × (n ≤ 11) × (recognise image input B D R before ≡ refusal n place before))
+
+    inside : Said → recognise image input B D R before .answer .consumed ≤ length input
+    inside (inl h) = rw (d.runs (h .1)) (inside-start (h .0) input B D R (fromStart (h .0) input B D R) refl)
+    inside (inr h) = rw (h .4) (omega arith)
+
+    entry : Said → ((g : Grammar) × d.Entered image g input B D R before)
+        ⊎ ((n place : ℕ) × (1 ≤ n) × (n ≤ 11) × (a ≡ numbers n 0 0 0 0 place) × (after ≡ before))
+    entry (inl h) = inl h
+    entry (inr h) = let q = e ∙ h .4 in inr (h .0, h .1, h .2, h .3, ap (λ k. k .answer) q, ap (λ k. k .slots) q)
 
 -- The same answer, written down as six numbers.
 pub written : {image input : List ℕ} {B D R : ℕ} {before after : List ℕ} {a b : Answer} → b ≡ a
     → Answers image input B D R before after a → Answers image input B D R before after b
 written {image} {input} {B} {D} {R} {before} {after} e h = subst (Answers image input B D R before after) (sym e) h
 
--- What is consumed is a front of the input.
-pub consumed-fits : {image input : List ℕ} {B D R : ℕ} {before after : List ℕ} {a : Answer} → Bytes image
-    → Answers image input B D R before after a → a .consumed ≤ length input
-consumed-fits {image} {input} {B} {D} {R} {before} bytes h =
-    subst (λ k. k .answer .consumed ≤ length input) (sym (h .is)) (go (d.answered image input B D R before bytes))
-  where
-    ran-to : (g : Grammar) (r : Result) → fromStart g input B D R ≡ r → answerOf r .consumed ≤ length input
-    ran-to g (ran (pass n τ) c) e =
-        ahead-pass (forward g input (exact g input outset (node g (g .start)) 0 [] R D B (pass n τ) c .0 e .0) (omega arith)) .1
-    ran-to g (ran fail c) e = omega arith
-    ran-to g (stopped n p c) e = omega arith
-
-    go : ((g : Grammar) × d.Entered image g input B D R before)
-        ⊎ ((n place : ℕ) × (1 ≤ n) × (n ≤ 11) × (recognise image input B D R before ≡ refusal n place before))
-        → recognise image input B D R before .answer .consumed ≤ length input
-    go (inl h) = rw (d.runs (h .1)) (ran-to (h .0) (fromStart (h .0) input B D R) refl)
-    go (inr h) = rw (h .4) (omega arith)
-
 -- A refusal before the run leaves the slots untouched.
-pub refuses : {image input : List ℕ} {B D R : ℕ} {slots : List ℕ} {r : code.Answer} (n place : ℕ) → r ≡ Refused n place 0 0 → 1 ≤ n → n ≤ 15
-    → recognise image input B D R slots ≡ refusal n place slots → Answers image input B D R slots slots (sixOf r) × Listed r
-refuses {image} {input} {B} {D} {R} {slots} n place e l m q =
-    (answers (ap (λ a. record { answer = sixOf a; slots = slots }) e ∙ sym q), subst Listed (sym e) (l, m))
+pub refuses : {image input : List ℕ} {B D R : ℕ} {slots : List ℕ} {r : code.Answer} (n place : ℕ) → Bytes image → r ≡ Refused n place 0 0
+    → 1 ≤ n → n ≤ 15 → recognise image input B D R slots ≡ refusal n place slots → Recognised image input B D R slots slots r
+refuses {slots = slots} n place bytes e l m q = record {
+  answers = answers bytes (ap (λ a. record { answer = sixOf a; slots = slots }) e ∙ sym q);
+  listed = subst Listed (sym e) (l, m);
+}
 
 -- ## What the walk over the image found
 
@@ -187,13 +202,14 @@ module _ {image : List ℕ} {g : Grammar} (e : readImage image ≡ good g) (byte
 
     -- and what it gives is the promise.
     pub run-gives : {after : List ℕ} {a : code.Answer} → Ran limited image input after a
-        → Answers image input B D R slots (after ++ drop (R * 3) slots) (sixOf a) × Listed a
+        → Recognised image input B D R slots (after ++ drop (R * 3) slots) a
     run-gives {after} {a} left-by =
         let X = fromStart g input B D R in
         let is-run : resultOf limited image input ≡ X = rw (grammar-is image g e, steps-set, depth-set, room-set) in
         let three : R * 3 ≡ 3 * R = omega arith in
         let left : after ++ drop (R * 3) slots ≡ slotsAfter R X slots = ap (λ l. l ++ drop (R * 3) slots) (left-by .leaves ∙ ap (λ n. leftBy n (resultOf limited image input)) room-set ∙ ap (leftBy R) is-run)
-        ∙ ap (λ n. leftBy R X ++ drop n slots) three ∙ left-and-rest R X slots in (
-          answers ((λ i. record { answer = (left-by .answers ∙ ap answerOf is-run) i; slots = left i }) ∙ sym (d.runs E)),
-          left-by .listed,
-        )
+        ∙ ap (λ n. leftBy R X ++ drop n slots) three ∙ left-and-rest R X slots in
+        record {
+          answers = answers bytes ((λ i. record { answer = (left-by .answers ∙ ap answerOf is-run) i; slots = left i }) ∙ sym (d.runs E));
+          listed = left-by .listed;
+        }

@@ -9,7 +9,7 @@ use Rattle.yarnspire.specs.declared.answer.Verdict.{Verdict}
 use Rattle.yarnspire.specs.declared.answer.Answer.{Answer}
 use Rattle.yarnspire.specs.declared.answer.Answer.the-variants.{Accepted, Failed, Refused}
 use Rattle.yarnspire.specs.Answer.{numberOf, placeOf, sixOf, Listed}
-use Rattle.yarnspire.specs.Promise.{Checks, Numbers, Answers}
+use Rattle.yarnspire.specs.Promise.{Checks, Numbers, Answers, Recognised, Texts}
 
 -- `check`
 pub one-verdict : {image : List ℕ} {r r′ : Verdict} → Checks image r → Checks image r′ → r ≡ r′
@@ -22,7 +22,7 @@ one-pair h h′ =
     (h .number-is ∙ ap numberOf e ∙ sym (h′ .number-is), h .place-is ∙ ap placeOf e ∙ sym (h′ .place-is))
 
 -- An answer's six numbers fix the answer, if a refusal's number is one of the list.
-same-answer : (r r′ : Answer) → Listed r → Listed r′ → sixOf r ≡ sixOf r′ → r ≡ r′
+pub same-answer : (r r′ : Answer) → Listed r → Listed r′ → sixOf r ≡ sixOf r′ → r ≡ r′
 same-answer (Accepted n s d h) (Accepted n′ s′ d′ h′) l l′ e = λ i. Accepted (e i .consumed) (e i .steps) (e i .depth) (e i .symbols)
 same-answer (Accepted n s d h) (Failed s′ d′) l l′ e = absurd (omega (arith, ap (λ a. a .kind) e))
 same-answer (Accepted n s d h) (Refused k p s′ d′) l l′ e = absurd (omega (arith, ap (λ a. a .kind) e, l′ .0))
@@ -40,13 +40,14 @@ module _ {image input : List ℕ} {B D R : ℕ} {before after after′ : List �
   one-answer h h′ = let e = h .is ∙ sym (h′ .is) in (ap (λ k. k .answer) e, ap (λ k. k .slots) e)
 
   -- `recognise`: the answer and every slot.
-  pub one-recognised : {r r′ : Answer} → Answers image input B D R before after (sixOf r) × Listed r
-      → Answers image input B D R before after′ (sixOf r′) × Listed r′ → (r ≡ r′) × (after ≡ after′)
-  one-recognised {r} {r′} h h′ = let e = one-answer (h .0) (h′ .0) in (same-answer r r′ (h .1) (h′ .1) (e .0), e .1)
+  pub one-recognised : {r r′ : Answer} → Recognised image input B D R before after r → Recognised image input B D R before after′ r′
+      → (r ≡ r′) × (after ≡ after′)
+  one-recognised {r} {r′} h h′ =
+      let e = one-answer (h .answers) (h′ .answers) in (same-answer r r′ (h .listed) (h′ .listed) (e .0), e .1)
 
-  -- `accepted_text`: the six numbers, every slot and the text.
-  pub one-text : {a a′ : m.Answer} {t t′ : List ℕ} → Answers image input B D R before after a × (t ≡ take (a .consumed) input)
-      → Answers image input B D R before after′ a′ × (t′ ≡ take (a′ .consumed) input) → (a ≡ a′) × (after ≡ after′) × (t ≡ t′)
+  -- `accepted_text`: the six numbers, every slot and the text's bytes.
+  pub one-text : {a a′ : m.Answer} {t t′ : List ℕ} → Texts image input B D R before after a t → Texts image input B D R before after′ a′ t′
+      → (a ≡ a′) × (after ≡ after′) × (t ≡ t′)
   one-text h h′ =
-      let e = one-answer (h .0) (h′ .0) in
-      (e .0, e .1, h .1 ∙ ap (λ a. take (a .consumed) input) (e .0) ∙ sym (h′ .1))
+      let e = one-answer (h .answers) (h′ .answers) in
+      (e .0, e .1, h .front ∙ ap (λ a. take (a .consumed) input) (e .0) ∙ sym (h′ .front))

@@ -3,9 +3,8 @@
 // Three operations, which take every image, input, limits and slot buffer, of any length, and ask nothing of their caller: `check`,
 // `recognise` and `accepted_text`. For C and Rust: `yarnspire_check` and `yarnspire_recognise`.
 ghost use mathlib.Core.Path.{_≡_};
-ghost use lib.ListN.{take};
-ghost use Rattle.yarnspire.specs.Answer.{sixOf, numbers, Listed};
-ghost use Rattle.yarnspire.specs.Promise.{Checks, Numbers, Answers};
+ghost use Rattle.yarnspire.specs.Answer.{sixOf, numbers};
+ghost use Rattle.yarnspire.specs.Promise.{Checks, Numbers, Answers, Recognised, Texts};
 
 mod answer;
 mod run;
@@ -43,7 +42,8 @@ fn refuse(number: u32, place: u32) -> Answer
     }
 }
 
-// Runs an input through the grammar of an image, under limits of steps, depth and room.
+// Runs an input through the grammar of an image. `steps`, `depth` and `room` are 01's limits B, D and R. Accepted fills the slots with table,
+// start and end of each held symbol, oldest first, and zeros up to 3R; failed and 12 to 15 put zeros there; 1 to 11 leave them as they are.
 pub fn recognise(
     image: &[u8],
     input: &[u8],
@@ -52,7 +52,7 @@ pub fn recognise(
     room: u32,
     slots: &mut [u32],
 ) -> Answer
-    ensures { λ r. ⌜ Answers (now (image .entry)) (now (input .entry)) steps depth room (now (slots .entry)) (now (slots .exit)) (sixOf r) × Listed r ⌝ }
+    ensures { λ r. ⌜ Recognised (now (image .entry)) (now (input .entry)) steps depth room (now (slots .entry)) (now (slots .exit)) r ⌝ }
 {
     let mut code = [0u32; 523];
     let loaded = load(image, &mut code);
@@ -126,7 +126,9 @@ fn write(
     }
 }
 
-// Recognises, and hands back the accepted front of the input as a part of the caller's own bytes: empty where nothing is accepted.
+// Recognises, and hands back the accepted front of the input as a part of the caller's own bytes: empty where nothing is accepted. The
+// answer goes to six numbers in 01's order: kind (0 accepted, 99 failed, else the refusal's number), consumed, steps, greatest depth, symbols
+// held, place. (The promise fixes the bytes that are handed back; that they lie at the input's front is seen in the last line alone.)
 pub fn accepted_text<'a>(
     image: &[u8],
     input: &'a [u8],
@@ -141,9 +143,8 @@ pub fn accepted_text<'a>(
     symbols: &mut u32,
     place: &mut u32,
 ) -> &'a [u8]
-    ensures { λ r. ⌜ Answers (now (image .entry)) (now (input .entry)) steps depth room (now (slots .entry)) (now (slots .exit))
-        (numbers (now (kind .exit)) (now (consumed .exit)) (now (count .exit)) (now (deepest .exit)) (now (symbols .exit)) (now (place .exit)))
-        × (now r ≡ take (now (consumed .exit)) (now (input .entry))) ⌝ }
+    ensures { λ r. ⌜ Texts (now (image .entry)) (now (input .entry)) steps depth room (now (slots .entry)) (now (slots .exit))
+        (numbers (now (kind .exit)) (now (consumed .exit)) (now (count .exit)) (now (deepest .exit)) (now (symbols .exit)) (now (place .exit))) (now r) ⌝ }
 {
     let answer = recognise(image, input, steps, depth, room, slots);
     write(answer, kind, consumed, count, deepest, symbols, place);
@@ -151,7 +152,7 @@ pub fn accepted_text<'a>(
     &input[..n]
 }
 
-// For C and Rust: check, with number 0 and place 0 for good.
+// For C and Rust: check, with number 0 and place 0 for good. A slice is a pointer and a length there.
 #[no_mangle]
 pub extern "C" fn yarnspire_check(image: &[u8], number: &mut u32, place: &mut u32)
     ensures { λ _. ⌜ Numbers (now (image .entry)) (now (number .exit)) (now (place .exit)) ⌝ }
@@ -172,7 +173,8 @@ pub extern "C" fn yarnspire_check(image: &[u8], number: &mut u32, place: &mut u3
     }
 }
 
-// For C and Rust: recognise. The accepted text is the input's first `consumed` bytes.
+// For C and Rust: recognise, with the answer in six numbers as `accepted_text` writes them. The accepted text is the input's first
+// `consumed` bytes.
 #[no_mangle]
 pub extern "C" fn yarnspire_recognise(
     image: &[u8],

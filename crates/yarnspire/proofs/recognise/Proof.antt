@@ -43,7 +43,7 @@ returns c =
     let a = c .before .before .before .before .before .before .before .before .before .before .args in
     let f = found-fault (readImage (a .image .now)) (c .before .before .before .loaded2 .given .1) (c .before .before .before .before .before .load .ensures .answer) in
     let l = refusal (a .image .now) (bytes (c .before .before .before .before .before .before .before .before .before)) _ _ f in
-    refuses _ _ (c .refuse .ensures) (l .least) (omega (arith, l .most))
+    refuses _ _ (bytes (c .before .before .before .before .before .before .before .before .before)) (c .refuse .ensures) (l .least) (omega (arith, l .most))
     (image-refused (a .image .now) (a .input .now) (a .steps) (a .depth) (a .room) (a .slots .now) _ _ f)
 
 refuse-requires-2 : tie.Need-refuse-requires-2
@@ -53,7 +53,7 @@ returns-2 : tie.Need-returns-2
 returns-2 c =
     let a = c .before .before .before .before .before .before .before .before .before .before .args in
     let w = found-good (readImage (a .image .now)) (c .before .before .before .loaded .given .1) (c .before .before .before .before .before .load .ensures .answer) in
-    refuses 9 0 (c .refuse2 .ensures) (omega arith) (omega arith)
+    refuses 9 0 (bytes (c .before .before .before .before .before .before .before .before .before)) (c .refuse2 .ensures) (omega arith) (omega arith)
     (input-refused (a .image .now) (w .0) (a .input .now) (a .steps) (a .depth) (a .room) (a .slots .now) (w .1) (c .before .if1 .taken))
 
 allowed-requires : tie.Need-allowed-requires
@@ -66,7 +66,7 @@ returns-3 : tie.Need-returns-3
 returns-3 c =
     let a = c .before .before .before .before .before .before .before .before .before .before .before .before .args in
     let w = found-good (readImage (a .image .now)) (c .before .before .before .before .before .loaded .given .1) (c .before .before .before .before .before .before .before .load .ensures .answer) in
-    refuses 10 0 (c .refuse3 .ensures) (omega arith) (omega arith)
+    refuses 10 0 (bytes (c .before .before .before .before .before .before .before .before .before .before .before)) (c .refuse3 .ensures) (omega arith) (omega arith)
     (limits-refused (a .image .now) (w .0) (a .input .now) (a .steps) (a .depth) (a .room) (a .slots .now) (w .1) (c .before .before .before .if1 .left)
     (disallowed (c .before .before .allowed .ensures) (c .before .if2 .taken)))
 
@@ -83,7 +83,7 @@ returns-4 : tie.Need-returns-4
 returns-4 c =
     let a = c .before .before .before .before .before .before .before .before .before .before .before .before .before .args in
     let w = found-good (readImage (a .image .now)) (c .before .before .before .before .before .before .loaded .given .1) (c .before .before .before .before .before .before .before .before .load .ensures .answer) in
-    refuses 11 0 (c .refuse4 .ensures) (omega arith) (omega arith)
+    refuses 11 0 (bytes (c .before .before .before .before .before .before .before .before .before .before .before .before)) (c .refuse4 .ensures) (omega arith) (omega arith)
     (slots-refused (a .image .now) (w .0) (a .input .now) (a .steps) (a .depth) (a .room) (a .slots .now) (w .1) (c .before .before .before .before .if1 .left)
     (permitted (c .before .before .before .allowed .ensures) (c .before .before .if2 .left)) (omega (arith, c .before .if3 .taken)))
 

@@ -14,7 +14,7 @@ same-length : tie.Need-same-length
 same-length c = search needs
 
 returns : tie.Need-returns
-returns c = written (c .write .ensures) (c .before .before .before .before .before .before .before .before .before .recognise .ensures .0)
+returns c = written (c .write .ensures) (c .before .before .before .before .before .before .before .before .before .recognise .ensures .answers)
 
 pub yarnspire-recognise-spec : {M : Type 1} → statement M
 yarnspire-recognise-spec =
