@@ -7,9 +7,9 @@ use denote.Enum.Declared.{tagOf}
 use Rattle.image.proofs.node.Node as node
 use Rattle.image.specs.declared.node.Node.{Node}
 use Rattle.image.specs.declared.node.Node.the-variants.{Empty, Byte, Range, Any, Text, Sequence, Choice, Star, Not, Call, Def, Match, Is, Isa, Exists, Block, Local, If, On}
-use Rattle.machine.proofs.outcome.Outcome.{the-type}
-use Rattle.machine.specs.declared.outcome.Outcome.{Outcome}
-use Rattle.machine.specs.declared.outcome.Outcome.the-variants.{Passed, Failed, Refused}
+use Rattle.parts.proofs.outcome.Outcome.{the-type}
+use Rattle.parts.specs.declared.outcome.Outcome.{Outcome}
+use Rattle.parts.specs.declared.outcome.Outcome.the-variants.{Passed, Failed, Refused}
 use Rattle.machine.specs.TurnedLaws.{Stops, at-failed, at-refused, Stays, on-passed, on-refused}
 
 pub stops : (o : Outcome) → (tagOf the-type o ≡ 1) ⊎ (tagOf the-type o ≡ 2) → Stops o

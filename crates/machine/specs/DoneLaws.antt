@@ -12,11 +12,11 @@ use Rattle.image.specs.Reading.{pick}
 use Rattle.meaning.specs.State.{State as Symbols, others}
 use Rattle.meaning.specs.Outcome.{Outcome as Meant, pass, fail, part, among, passIf, swap, restored, closed, compared}
 use Rattle.meaning.specs.Rules.{symbol}
-use Rattle.machine.specs.declared.outcome.Outcome.{Outcome}
-use Rattle.machine.specs.declared.outcome.Outcome.the-variants.{Passed, Failed, Refused}
-use Rattle.machine.specs.Packed.{openedOf}
-use Rattle.machine.specs.Slots.{symbols, putting, Below, Closes}
-use Rattle.machine.specs.SlotsLaws.{symbols-length, putting-length, putting-other, putting-more}
+use Rattle.parts.specs.declared.outcome.Outcome.{Outcome}
+use Rattle.parts.specs.declared.outcome.Outcome.the-variants.{Passed, Failed, Refused}
+use Rattle.parts.specs.Packed.{openedOf}
+use Rattle.parts.specs.Slots.{symbols, putting, Below, Closes}
+use Rattle.parts.specs.SlotsLaws.{symbols-length, putting-length, putting-other, putting-more}
 use Rattle.machine.specs.Turned.{Bounds, givenOf, negatedOf, restoredOf, comparedOf, definedOf, definedIn, ClosedOf}
 use Rattle.machine.specs.TurnedLaws.{Stops, at-failed, at-refused, Stays, on-passed, on-refused}
 use Rattle.machine.specs.Told.{Told, came, stopped, andThen, orElse, become, afterRound}

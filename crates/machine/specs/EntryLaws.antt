@@ -18,9 +18,9 @@ use Rattle.meaning.specs.State.{Symbol, State as Symbols, ofTable, visible, hid
 use Rattle.meaning.specs.Outcome.{Outcome as Meant, pass, fail, _and_, begins, some, inRange, agree, passIf, swap, restored, closed, matched, compared, text}
 use Rattle.meaning.specs.Rules.{symbol}
 use Rattle.machine.specs.declared.state.State.{State}
-use Rattle.machine.specs.Slots.{symbols, symbolAt, latestOf, Below}
-use Rattle.machine.specs.Seen.{listed, seen-none, seen-front, seen-some}
-use Rattle.machine.specs.SlotsLaws.{symbols-length}
+use Rattle.parts.specs.Slots.{symbols, symbolAt, latestOf, Below}
+use Rattle.parts.specs.Seen.{listed, seen-none, seen-front, seen-some}
+use Rattle.parts.specs.SlotsLaws.{symbols-length}
 use Rattle.machine.specs.Held.{envOf, hiding}
 use Rattle.machine.specs.Told.{Told, came, stopped, andThen, orElse, become, tells}
 use Rattle.machine.specs.ToldLaws.{tells-sequence, tells-choice, tells-star, tells-not, tells-call, tells-block, tells-local, tells-on, tells-def, Naming, with-latest, with-some, tells-none, tells-named, tells-empty, tells-byte, tells-range, tells-any, tells-text, tells-match, tells-exists, tells-if}

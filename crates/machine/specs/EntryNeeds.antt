@@ -13,12 +13,12 @@ use Rattle.meaning.specs.State.{Symbol, State as Symbols}
 use Rattle.meaning.specs.Outcome.{begins, inRange, same, part, among, text}
 use Rattle.meaning.specs.Forward.{begins-fits, range-fits}
 use Rattle.meaning.specs.Inside.{Part}
-use Rattle.machine.specs.declared.outcome.Outcome.{Outcome}
-use Rattle.machine.specs.declared.outcome.Outcome.the-variants.{Refused}
+use Rattle.parts.specs.declared.outcome.Outcome.{Outcome}
+use Rattle.parts.specs.declared.outcome.Outcome.the-variants.{Refused}
 use Rattle.machine.specs.declared.state.State.{State}
-use Rattle.machine.specs.Packed.{openedOf}
-use Rattle.machine.specs.Slots.{symbolAt, symbols, latestOf, Below, Parts}
-use Rattle.machine.specs.Seen.{listed, seen-below}
+use Rattle.parts.specs.Packed.{openedOf}
+use Rattle.parts.specs.Slots.{symbolAt, symbols, latestOf, Below, Parts}
+use Rattle.parts.specs.Seen.{listed, seen-below}
 use Rattle.machine.specs.Held.{envOf}
 use Rattle.machine.specs.Turned.{Bounds, Lent}
 use Rattle.machine.specs.TurnedLaws.{wider, lent-by}

@@ -11,11 +11,11 @@ use Rattle.image.specs.Node.{nodeOf, exprOf, InImage}
 use Rattle.meaning.specs.State.{Symbol, State as Symbols}
 use Rattle.meaning.specs.Outcome.{pass, fail}
 use Rattle.meaning.specs.Inside.{Part}
-use Rattle.machine.specs.declared.outcome.Outcome.{Outcome}
-use Rattle.machine.specs.declared.outcome.Outcome.the-variants.{Passed, Failed, Refused}
+use Rattle.parts.specs.declared.outcome.Outcome.{Outcome}
+use Rattle.parts.specs.declared.outcome.Outcome.the-variants.{Passed, Failed, Refused}
 use Rattle.machine.specs.declared.state.State.{State}
-use Rattle.machine.specs.Packed.{openedOf}
-use Rattle.machine.specs.Slots.{symbols, Below}
+use Rattle.parts.specs.Packed.{openedOf}
+use Rattle.parts.specs.Slots.{symbols, Below}
 use Rattle.machine.specs.Held.{envOf}
 use Rattle.machine.specs.Told.{Told, came, stopped, tells, rounding}
 

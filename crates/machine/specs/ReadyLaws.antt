@@ -17,12 +17,12 @@ use Rattle.meaning.specs.Forward.{forward, ahead-pass}
 use Rattle.meaning.specs.Remain.{remain, ends-eq}
 use Rattle.meaning.specs.Room.{room-enough, of-pass}
 use Rattle.meaning.specs.Inside.{Part, kept-inside}
-use Rattle.machine.specs.declared.outcome.Outcome.{Outcome}
-use Rattle.machine.specs.declared.outcome.Outcome.the-variants.{Passed, Failed, Refused}
+use Rattle.parts.specs.declared.outcome.Outcome.{Outcome}
+use Rattle.parts.specs.declared.outcome.Outcome.the-variants.{Passed, Failed, Refused}
 use Rattle.machine.specs.declared.state.State.{State}
-use Rattle.machine.specs.Packed.{openedOf}
-use Rattle.machine.specs.Slots.{symbols, Below}
-use Rattle.machine.specs.SlotsLaws.{symbols-length, symbols-same}
+use Rattle.parts.specs.Packed.{openedOf}
+use Rattle.parts.specs.Slots.{symbols, Below}
+use Rattle.parts.specs.SlotsLaws.{symbols-length, symbols-same}
 use Rattle.machine.specs.Held.{envOf}
 use Rattle.machine.specs.Turned.{Bounds}
 use Rattle.machine.specs.Told.{Told, came, stopped, carry, tells}

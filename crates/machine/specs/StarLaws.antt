@@ -11,11 +11,11 @@ use Rattle.grammar.specs.Grammar.{node}
 use Rattle.image.specs.Reading.{pick}
 use Rattle.meaning.specs.State.{State as Symbols}
 use Rattle.meaning.specs.Outcome.{pass}
-use Rattle.machine.specs.declared.outcome.Outcome.{Outcome}
-use Rattle.machine.specs.declared.outcome.Outcome.the-variants.{Passed, Failed, Refused}
+use Rattle.parts.specs.declared.outcome.Outcome.{Outcome}
+use Rattle.parts.specs.declared.outcome.Outcome.the-variants.{Passed, Failed, Refused}
 use Rattle.machine.specs.declared.state.State.{State}
-use Rattle.machine.specs.Packed.{openedOf}
-use Rattle.machine.specs.Slots.{symbols, Below}
+use Rattle.parts.specs.Packed.{openedOf}
+use Rattle.parts.specs.Slots.{symbols, Below}
 use Rattle.machine.specs.Held.{envOf}
 use Rattle.machine.specs.Turned.{Bounds}
 use Rattle.machine.specs.TurnedLaws.{Stops, at-refused, Stays, on-refused}

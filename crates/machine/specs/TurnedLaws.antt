@@ -10,9 +10,9 @@ use Rattle.image.specs.Reading.{pick}
 use Rattle.meaning.specs.State.{Symbol}
 use Rattle.meaning.specs.Outcome.{text}
 use Rattle.meaning.specs.Inside.{Part}
-use Rattle.machine.specs.declared.outcome.Outcome.{Outcome}
-use Rattle.machine.specs.declared.outcome.Outcome.the-variants.{Passed, Failed, Refused}
-use Rattle.machine.specs.Slots.{putting, Closes}
+use Rattle.parts.specs.declared.outcome.Outcome.{Outcome}
+use Rattle.parts.specs.declared.outcome.Outcome.the-variants.{Passed, Failed, Refused}
+use Rattle.parts.specs.Slots.{putting, Closes}
 use Rattle.machine.specs.Turned.{Bounds, Lent, negatedOf, restoredOf, comparedOf, definedOf, definedIn, ClosedOf}
 
 -- An outcome that is not passed; one that is not failed.

@@ -6,12 +6,12 @@ use mathlib.Core.List.{List}
 use native.Mathlib.Omega.{arith}
 use lib.ListN.{length}
 use Rattle.meaning.specs.State.{Env}
-use Rattle.machine.specs.declared.outcome.Outcome.{Outcome}
-use Rattle.machine.specs.declared.outcome.Outcome.the-variants.{Passed, Failed, Refused}
+use Rattle.parts.specs.declared.outcome.Outcome.{Outcome}
+use Rattle.parts.specs.declared.outcome.Outcome.the-variants.{Passed, Failed, Refused}
 use Rattle.machine.specs.declared.state.State.{State}
-use Rattle.machine.specs.Packed.{openedOf}
-use Rattle.machine.specs.Slots.{symbols}
-use Rattle.machine.specs.SlotsLaws.{symbols-length, closes-once}
+use Rattle.parts.specs.Packed.{openedOf}
+use Rattle.parts.specs.Slots.{symbols}
+use Rattle.parts.specs.SlotsLaws.{symbols-length, closes-once}
 use Rattle.machine.specs.Held.{envOf}
 use Rattle.machine.specs.Turned.{definedIn, ClosedOf}
 use Rattle.machine.specs.Told.{Told}

@@ -1,8 +1,4 @@
-// The machine: the slot buffer, the leaves and the evaluator.
-pub mod bytes;
-pub mod compare;
+// The machine: what holds while an expression runs, what the kinds make of an outcome, and the evaluator.
 pub mod evaluate;
 pub mod inside;
-pub mod outcome;
-pub mod slots;
 pub mod state;

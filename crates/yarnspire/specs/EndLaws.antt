@@ -12,11 +12,11 @@ use Rattle.meaning.specs.Cost.{Cost}
 use Rattle.meaning.specs.Run.{Result, ran, refused, run}
 use Rattle.meaning.specs.Recognise.{Answer, answerOf, flat, filled, slotsAfter, fromStart}
 use Rattle.meaning.specs.Demands.{number-of}
-use Rattle.machine.specs.declared.outcome.Outcome as o
-use Rattle.machine.specs.declared.outcome.Outcome.the-variants as ov
-use Rattle.machine.specs.Slots.{symbolAt, symbols}
-use Rattle.machine.specs.SlotsLaws.{symbols-length}
-use Rattle.machine.specs.Packed.{openedOf}
+use Rattle.parts.specs.declared.outcome.Outcome as o
+use Rattle.parts.specs.declared.outcome.Outcome.the-variants as ov
+use Rattle.parts.specs.Slots.{symbolAt, symbols}
+use Rattle.parts.specs.SlotsLaws.{symbols-length}
+use Rattle.parts.specs.Packed.{openedOf}
 use Rattle.machine.specs.declared.state.State as st
 use Rattle.machine.specs.Held.{envOf}
 use Rattle.machine.specs.Turned.{Bounds}

@@ -7,8 +7,8 @@ use Rattle.meaning.specs.Outcome.{pass, fail}
 use Rattle.meaning.specs.Run.{Result, ran, refused}
 use Rattle.meaning.specs.Recognise.{answerOf, flat, fromStart}
 use Rattle.meaning.specs.Demands.{Ranges}
-use Rattle.machine.specs.declared.outcome.Outcome as o
-use Rattle.machine.specs.declared.outcome.Outcome.the-variants as ov
+use Rattle.parts.specs.declared.outcome.Outcome as o
+use Rattle.parts.specs.declared.outcome.Outcome.the-variants as ov
 use Rattle.machine.specs.Ready.{grammarOf, stepLimit, depthLimit, roomLimit, Coded}
 use Rattle.yarnspire.specs.Answer.{sixOf, Listed}
 use Rattle.yarnspire.specs.declared.answer.Answer.{Answer}

@@ -4,13 +4,13 @@ ghost use mathlib.Core.List.{_++_};
 ghost use Prim.Native.Nat.{_-_};
 ghost use lib.ListN.{length, take, replicate};
 ghost use Rattle.meaning.specs.Recognise.{allowed as Recognise·allowed};
-ghost use Rattle.machine.specs.Packed.{openedOf};
+ghost use Rattle.parts.specs.Packed.{openedOf};
 ghost use Rattle.yarnspire.specs.Ended.{answerFor, keptOf, Kept, Runs, Ran};
 use crate::answer::Answer;
 use machine::evaluate::eval;
-use machine::outcome::Outcome;
-use machine::outcome::opened;
-use machine::slots::zero;
+use parts::outcome::Outcome;
+use parts::outcome::opened;
+use parts::slots::zero;
 use machine::state::State;
 
 // Whether each limit is within its range.

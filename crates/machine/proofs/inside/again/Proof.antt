@@ -6,7 +6,7 @@ use native.Mathlib.Omega.{arith}
 use lib.ListN.{drop, length-drop}
 use Rattle.meaning.specs.Outcome.{text, begins}
 use Rattle.meaning.specs.Forward.{begins-fits}
-use Rattle.machine.specs.Slots.{symbolAt}
+use Rattle.parts.specs.Slots.{symbolAt}
 use Rattle.machine.specs.Turned.{givenOf}
 use Rattle.machine.specs.TurnedLaws.{text-length}
 use borrow.Author.Needs.{needs}

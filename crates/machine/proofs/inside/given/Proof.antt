@@ -1,7 +1,7 @@
 -- `given` meets its promise. Assumes nothing.
 use mathlib.Core.Path.{_≡_, ap, sym, _∙_}
 use Rattle.image.specs.Reading.{pick}
-use Rattle.machine.specs.declared.outcome.Outcome.the-variants.{Passed, Failed}
+use Rattle.parts.specs.declared.outcome.Outcome.the-variants.{Passed, Failed}
 use borrow.Author.Needs.{needs}
 use Rattle.machine.proofs.inside.given.Statement.{statement}
 use Rattle.machine.proofs.inside.given.Tie as tie

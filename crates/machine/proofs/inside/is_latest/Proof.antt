@@ -2,7 +2,7 @@
 use mathlib.Core.Path.{_≡_, refl, ap, sym, _∙_, subst}
 use native.Mathlib.Omega.{arith}
 use Rattle.meaning.specs.Outcome.{same, part, text}
-use Rattle.machine.specs.Slots.{symbolAt}
+use Rattle.parts.specs.Slots.{symbolAt}
 use Rattle.machine.specs.Turned.{Bounds, givenOf, comparedOf}
 use Rattle.machine.specs.TurnedLaws.{Stops, compared-stops}
 use lib.ListN.{length}

@@ -2,7 +2,7 @@
 use mathlib.Core.Path.{_≡_, refl, ap, sym, _∙_, subst}
 use native.Mathlib.Omega.{arith}
 use Rattle.meaning.specs.Outcome.{part, among}
-use Rattle.machine.specs.Seen.{listed}
+use Rattle.parts.specs.Seen.{listed}
 use Rattle.machine.specs.Turned.{Bounds, givenOf, comparedOf}
 use Rattle.machine.specs.TurnedLaws.{Stops, compared-stops}
 use lib.ListN.{length}

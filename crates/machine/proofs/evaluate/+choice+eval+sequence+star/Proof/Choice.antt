@@ -4,7 +4,7 @@ use mathlib.Core.Path.{sym, _∙_, subst}
 use native.Mathlib.Omega.{arith}
 use borrow.Author.Needs.{needs}
 use Rattle.grammar.specs.Grammar.{node}
-use Rattle.machine.specs.Slots.{symbols}
+use Rattle.parts.specs.Slots.{symbols}
 use Rattle.machine.specs.TurnedLaws.{Stays}
 use Rattle.machine.specs.Ready.{grammarOf, telling}
 use Rattle.machine.specs.ReadyLaws.{ready-back}

@@ -16,8 +16,8 @@ use Rattle.machine.proofs.evaluate.star.Reads as star
 use Rattle.machine.proofs.evaluate.star.Kinds as star-kinds
 use Rattle.machine.proofs.evaluate.+choice+eval+sequence+star.Lts-star as star-lts
 use Rattle.image.proofs.node_of.Reads as node-of-reads
-use Rattle.machine.proofs.bytes.begins_with.Reads as begins-with-reads
-use Rattle.machine.proofs.bytes.within.Reads as within-reads
+use Rattle.parts.proofs.bytes.begins_with.Reads as begins-with-reads
+use Rattle.parts.proofs.bytes.within.Reads as within-reads
 use Rattle.machine.proofs.evaluate.greater.Reads as greater-reads
 use Rattle.machine.proofs.inside.again.Reads as again-reads
 use Rattle.machine.proofs.inside.closed.Reads as closed-reads
@@ -27,11 +27,11 @@ use Rattle.machine.proofs.inside.is_latest.Reads as is-latest-reads
 use Rattle.machine.proofs.inside.is_some.Reads as is-some-reads
 use Rattle.machine.proofs.inside.negated.Reads as negated-reads
 use Rattle.machine.proofs.inside.restored.Reads as restored-reads
-use Rattle.machine.proofs.outcome.failed.Reads as failed-reads
-use Rattle.machine.proofs.outcome.opened.Reads as opened-reads
-use Rattle.machine.proofs.outcome.passed.Reads as passed-reads
-use Rattle.machine.proofs.outcome.refused.Reads as refused-reads
-use Rattle.machine.proofs.slots.latest.Reads as latest-reads
+use Rattle.parts.proofs.outcome.failed.Reads as failed-reads
+use Rattle.parts.proofs.outcome.opened.Reads as opened-reads
+use Rattle.parts.proofs.outcome.passed.Reads as passed-reads
+use Rattle.parts.proofs.outcome.refused.Reads as refused-reads
+use Rattle.parts.proofs.slots.latest.Reads as latest-reads
 use Rattle.machine.proofs.state.floor.Reads as floor-reads
 use Rattle.machine.proofs.state.truth.Reads as truth-reads
 use Rattle.machine.proofs.state.with_floor.Reads as with-floor-reads

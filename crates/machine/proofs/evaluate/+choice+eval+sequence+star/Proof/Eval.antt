@@ -9,9 +9,9 @@ use lib.Dec.{ltb}
 use lib.ListN.{length, take, drop, getD}
 use Rattle.meaning.specs.State.{visible}
 use Rattle.meaning.specs.Outcome.{same, some, part, text, begins, among}
-use Rattle.machine.specs.Slots.{symbolAt, symbols}
+use Rattle.parts.specs.Slots.{symbolAt, symbols}
 use Rattle.machine.specs.Held.{envOf}
-use Rattle.machine.specs.Seen.{listed}
+use Rattle.parts.specs.Seen.{listed}
 use Rattle.machine.specs.Ready.{roomLimit}
 use Rattle.machine.specs.ReadyLaws.{below-same}
 use Rattle.machine.specs.DoneLaws.{done-as, done-given, done-passed, done-failed, done-not, done-on, done-named, done-def, done-closed}
