@@ -52,13 +52,48 @@ fn main() {
     let wanted = letter();
     // A node of the kind, whose inside is a Call back to it.
     show(wanted, b'a', b"call", b"\x01\x00\x00\x01\x00\x09\x00");
-    show(wanted, b'b', b"sequence", b"\x01\x00\x00\x02\x01\x09\x01\x05\x00\x00");
-    show(wanted, b'c', b"choice", b"\x01\x00\x00\x02\x01\x09\x01\x06\x00\x00");
-    show(wanted, b'd', b"star", b"\x01\x00\x00\x02\x01\x09\x01\x07\x00");
-    show(wanted, b'e', b"not", b"\x01\x00\x00\x02\x01\x09\x01\x08\x00");
-    show(wanted, b'f', b"block", b"\x01\x01\x00\x02\x01\x00\x09\x01\x0F\x00\x00");
-    show(wanted, b'g', b"local", b"\x01\x01\x00\x02\x01\x00\x09\x01\x10\x00\x00");
-    show(wanted, b'h', b"on", b"\x01\x00\x01\x02\x01\x09\x01\x12\x00\x01\x00");
+    show(
+        wanted,
+        b'b',
+        b"sequence",
+        b"\x01\x00\x00\x02\x01\x09\x01\x05\x00\x00",
+    );
+    show(
+        wanted,
+        b'c',
+        b"choice",
+        b"\x01\x00\x00\x02\x01\x09\x01\x06\x00\x00",
+    );
+    show(
+        wanted,
+        b'd',
+        b"star",
+        b"\x01\x00\x00\x02\x01\x09\x01\x07\x00",
+    );
+    show(
+        wanted,
+        b'e',
+        b"not",
+        b"\x01\x00\x00\x02\x01\x09\x01\x08\x00",
+    );
+    show(
+        wanted,
+        b'f',
+        b"block",
+        b"\x01\x01\x00\x02\x01\x00\x09\x01\x0F\x00\x00",
+    );
+    show(
+        wanted,
+        b'g',
+        b"local",
+        b"\x01\x01\x00\x02\x01\x00\x09\x01\x10\x00\x00",
+    );
+    show(
+        wanted,
+        b'h',
+        b"on",
+        b"\x01\x00\x01\x02\x01\x09\x01\x12\x00\x01\x00",
+    );
     // A pattern that is the Def itself.
     show(wanted, b'i', b"def", b"\x01\x01\x00\x01\x00\x00\x0A\x00");
     // A pattern that is Is, or nothing where there is no name yet; a name is stored first. The same with Isa.

@@ -1,9 +1,7 @@
+-- What the evaluator promises, and the laws of it.
 pub mod Told
 pub mod ToldLaws
-pub mod Held
-pub mod Turned
 pub mod Ready
-pub mod TurnedLaws
 pub mod ReadyLaws
 pub mod DoneLaws
 pub mod EntryLaws

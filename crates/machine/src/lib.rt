@@ -1,4 +1,2 @@
-// The machine: what holds while an expression runs, what the kinds make of an outcome, and the evaluator.
+// The machine: the evaluator over the nineteen kinds.
 pub mod evaluate;
-pub mod inside;
-pub mod state;

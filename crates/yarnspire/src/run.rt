@@ -11,7 +11,7 @@ use machine::evaluate::eval;
 use parts::outcome::Outcome;
 use parts::outcome::opened;
 use parts::slots::zero;
-use machine::state::State;
+use parts::state::State;
 
 // Whether each limit is within its range.
 pub(crate) fn allowed(steps: u32, depth: u32, room: u32) -> bool

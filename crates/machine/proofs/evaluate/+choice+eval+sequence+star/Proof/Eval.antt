@@ -10,14 +10,14 @@ use lib.ListN.{length, take, drop, getD}
 use Rattle.meaning.specs.State.{visible}
 use Rattle.meaning.specs.Outcome.{same, some, part, text, begins, among}
 use Rattle.parts.specs.Slots.{symbolAt, symbols}
-use Rattle.machine.specs.Held.{envOf}
+use Rattle.parts.specs.Held.{envOf}
 use Rattle.parts.specs.Seen.{listed}
 use Rattle.machine.specs.Ready.{roomLimit}
 use Rattle.machine.specs.ReadyLaws.{below-same}
 use Rattle.machine.specs.DoneLaws.{done-as, done-given, done-passed, done-failed, done-not, done-on, done-named, done-def, done-closed}
 use Rattle.machine.specs.EntryLaws.{Entry, below, fits, lower, few-tables, few-conditions, pattern-numbered, in-image, short-text, in-list, unseen, in-view, any-seen, agrees, says-sequence, says-choice, says-star, says-not, says-call, says-block, says-local, says-on, says-def, says-is-none, says-isa-none, says-is, says-isa, says-empty, says-byte, says-range, says-any, says-text, says-match-none, says-match, says-exists, says-if}
 use Rattle.machine.specs.EntryNeeds.{refuses-steps, refuses-depth, place-fits, tally-fits, held-lent, range-ends, any-ends, text-ends, held-part, seen-held, seen-fits, same-symbol, is-test, plain-bounds, scope-bounds, named-bounds, room-lent, scope-lent}
-use Rattle.machine.proofs.OutcomeLaws.{empty-node, any-node}
+use Rattle.machine.proofs.KindLaws.{empty-node, any-node}
 use Rattle.machine.proofs.evaluate.eval.Reads as eval
 use Rattle.machine.proofs.evaluate.+choice+eval+sequence+star.Lts-eval as lts
 use Rattle.machine.proofs.evaluate.+choice+eval+sequence+star.Proof.Cycle.{eval-at, eval-claims}

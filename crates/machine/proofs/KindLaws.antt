@@ -1,28 +1,10 @@
--- What a match tells: on an outcome where its case is not taken, on a node of a kind without operands.
-use Prim.Native.Nat.{ℕ}
+-- What a match tells of a node of a kind without operands.
 use mathlib.Core.Path.{_≡_, refl}
-use mathlib.Core.Logic.{_⊎_, inl, inr}
 use native.Mathlib.Omega.{arith}
 use denote.Enum.Declared.{tagOf}
 use Rattle.image.proofs.node.Node as node
 use Rattle.image.specs.declared.node.Node.{Node}
 use Rattle.image.specs.declared.node.Node.the-variants.{Empty, Byte, Range, Any, Text, Sequence, Choice, Star, Not, Call, Def, Match, Is, Isa, Exists, Block, Local, If, On}
-use Rattle.parts.proofs.outcome.Outcome.{the-type}
-use Rattle.parts.specs.declared.outcome.Outcome.{Outcome}
-use Rattle.parts.specs.declared.outcome.Outcome.the-variants.{Passed, Failed, Refused}
-use Rattle.machine.specs.TurnedLaws.{Stops, at-failed, at-refused, Stays, on-passed, on-refused}
-
-pub stops : (o : Outcome) → (tagOf the-type o ≡ 1) ⊎ (tagOf the-type o ≡ 2) → Stops o
-stops (Passed a h s d) (inl e) = absurd (omega arith)
-stops (Passed a h s d) (inr e) = absurd (omega arith)
-stops (Failed s d) e = at-failed
-stops (Refused n p s d) e = at-refused
-
-pub stays : (o : Outcome) → (tagOf the-type o ≡ 0) ⊎ (tagOf the-type o ≡ 2) → Stays o
-stays (Passed a h s d) e = on-passed
-stays (Failed s d) (inl e) = absurd (omega arith)
-stays (Failed s d) (inr e) = absurd (omega arith)
-stays (Refused n p s d) e = on-refused
 
 pub empty-node : (k : Node) → tagOf node.the-type k ≡ 0 → k ≡ Empty
 empty-node Empty e = refl

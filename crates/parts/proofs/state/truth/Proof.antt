@@ -1,9 +1,9 @@
 -- `truth` meets its promise. Assumes nothing.
 use mathlib.Core.Bool.{true, false}
-use Rattle.machine.specs.Held.{getD-any}
+use Rattle.parts.specs.Held.{getD-any}
 use borrow.Author.Needs.{needs}
-use Rattle.machine.proofs.state.truth.Statement.{statement}
-use Rattle.machine.proofs.state.truth.Tie as tie
+use Rattle.parts.proofs.state.truth.Statement.{statement}
+use Rattle.parts.proofs.state.truth.Tie as tie
 
 array-read-result : tie.Need-array-read-result
 array-read-result c = search needs
