@@ -380,8 +380,8 @@ fn choice(
     );
     let first = opened(r);
     let Outcome::Failed {
-        steps: spent,
-        depth: deepest,
+        steps: lost,
+        depth: reached,
     } = first
     else {
         return r;
@@ -396,8 +396,8 @@ fn choice(
         b,
         at,
         held,
-        spent,
-        deepest,
+        lost,
+        reached,
     )
 }
 
