@@ -17,8 +17,8 @@ use Rattle.parts.specs.declared.outcome.Outcome.the-variants.{Passed, Failed, R
 use Rattle.parts.specs.Packed.{openedOf}
 use Rattle.parts.specs.Slots.{symbols, putting, Below, Closes}
 use Rattle.parts.specs.SlotsLaws.{symbols-length, putting-length, putting-other, putting-more}
-use Rattle.parts.specs.Turned.{Bounds, givenOf, negatedOf, restoredOf, comparedOf, definedOf, definedIn, ClosedOf}
-use Rattle.parts.specs.TurnedLaws.{Stops, at-failed, at-refused, Stays, on-passed, on-refused}
+use Rattle.kinds.specs.Turned.{Bounds, givenOf, negatedOf, restoredOf, comparedOf, definedOf, definedIn, ClosedOf}
+use Rattle.kinds.specs.TurnedLaws.{Stops, at-failed, at-refused, Stays, on-passed, on-refused}
 use Rattle.machine.specs.Told.{Told, came, stopped, andThen, orElse, become, afterRound}
 use Rattle.machine.specs.Ready.{readBack, Done}
 use Rattle.machine.specs.ReadyLaws.{kept-below, below-then, below-same}

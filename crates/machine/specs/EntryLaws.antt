@@ -17,11 +17,11 @@ use Rattle.image.specs.declared.node.Node.the-variants.{Empty, Byte, Range, Any
 use Rattle.meaning.specs.State.{Symbol, State as Symbols, ofTable, visible, hide, switch}
 use Rattle.meaning.specs.Outcome.{Outcome as Meant, pass, fail, _and_, begins, some, inRange, agree, passIf, swap, restored, closed, matched, compared, text}
 use Rattle.meaning.specs.Rules.{symbol}
-use Rattle.parts.specs.declared.state.State.{State}
+use Rattle.kinds.specs.declared.state.State.{State}
 use Rattle.parts.specs.Slots.{symbols, symbolAt, latestOf, Below}
 use Rattle.parts.specs.Seen.{listed, seen-none, seen-front, seen-some}
 use Rattle.parts.specs.SlotsLaws.{symbols-length}
-use Rattle.parts.specs.Held.{envOf, hiding}
+use Rattle.kinds.specs.Held.{envOf, hiding}
 use Rattle.machine.specs.Told.{Told, came, stopped, andThen, orElse, become, tells}
 use Rattle.machine.specs.ToldLaws.{tells-sequence, tells-choice, tells-star, tells-not, tells-call, tells-block, tells-local, tells-on, tells-def, Naming, with-latest, with-some, tells-none, tells-named, tells-empty, tells-byte, tells-range, tells-any, tells-text, tells-match, tells-exists, tells-if}
 use Rattle.machine.specs.ReadyLaws.{kept-below, below-same}

@@ -15,13 +15,13 @@ use Rattle.meaning.specs.Forward.{begins-fits, range-fits}
 use Rattle.meaning.specs.Inside.{Part}
 use Rattle.parts.specs.declared.outcome.Outcome.{Outcome}
 use Rattle.parts.specs.declared.outcome.Outcome.the-variants.{Refused}
-use Rattle.parts.specs.declared.state.State.{State}
+use Rattle.kinds.specs.declared.state.State.{State}
 use Rattle.parts.specs.Packed.{openedOf}
 use Rattle.parts.specs.Slots.{symbolAt, symbols, latestOf, Below, Parts}
 use Rattle.parts.specs.Seen.{listed, seen-below}
-use Rattle.parts.specs.Held.{envOf}
-use Rattle.parts.specs.Turned.{Bounds, Lent}
-use Rattle.parts.specs.TurnedLaws.{wider, lent-by}
+use Rattle.kinds.specs.Held.{envOf}
+use Rattle.kinds.specs.Turned.{Bounds, Lent}
+use Rattle.kinds.specs.TurnedLaws.{wider, lent-by}
 use Rattle.machine.specs.ToldLaws.{tells-no-steps, tells-no-depth}
 use Rattle.machine.specs.Ready.{grammarOf, stepLimit, depthLimit, roomLimit, Ready, Done, telling}
 use Rattle.machine.specs.ReadyLaws.{kept-below, bounds-of}

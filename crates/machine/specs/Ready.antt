@@ -13,10 +13,10 @@ use Rattle.meaning.specs.Outcome.{pass, fail}
 use Rattle.meaning.specs.Inside.{Part}
 use Rattle.parts.specs.declared.outcome.Outcome.{Outcome}
 use Rattle.parts.specs.declared.outcome.Outcome.the-variants.{Passed, Failed, Refused}
-use Rattle.parts.specs.declared.state.State.{State}
+use Rattle.kinds.specs.declared.state.State.{State}
 use Rattle.parts.specs.Packed.{openedOf}
 use Rattle.parts.specs.Slots.{symbols, Below}
-use Rattle.parts.specs.Held.{envOf}
+use Rattle.kinds.specs.Held.{envOf}
 use Rattle.machine.specs.Told.{Told, came, stopped, tells, rounding}
 
 -- The grammar that an image stands for; where it stands for none, one without nodes.

@@ -19,12 +19,12 @@ use Rattle.meaning.specs.Room.{room-enough, of-pass}
 use Rattle.meaning.specs.Inside.{Part, kept-inside}
 use Rattle.parts.specs.declared.outcome.Outcome.{Outcome}
 use Rattle.parts.specs.declared.outcome.Outcome.the-variants.{Passed, Failed, Refused}
-use Rattle.parts.specs.declared.state.State.{State}
+use Rattle.kinds.specs.declared.state.State.{State}
 use Rattle.parts.specs.Packed.{openedOf}
 use Rattle.parts.specs.Slots.{symbols, Below}
 use Rattle.parts.specs.SlotsLaws.{symbols-length, symbols-same}
-use Rattle.parts.specs.Held.{envOf}
-use Rattle.parts.specs.Turned.{Bounds}
+use Rattle.kinds.specs.Held.{envOf}
+use Rattle.kinds.specs.Turned.{Bounds}
 use Rattle.machine.specs.Told.{Told, came, stopped, carry, tells}
 use Rattle.machine.specs.Ready.{grammarOf, stepLimit, depthLimit, roomLimit, Ready, readBack, Done, telling}
 

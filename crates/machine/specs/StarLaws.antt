@@ -13,12 +13,12 @@ use Rattle.meaning.specs.State.{State as Symbols}
 use Rattle.meaning.specs.Outcome.{pass}
 use Rattle.parts.specs.declared.outcome.Outcome.{Outcome}
 use Rattle.parts.specs.declared.outcome.Outcome.the-variants.{Passed, Failed, Refused}
-use Rattle.parts.specs.declared.state.State.{State}
+use Rattle.kinds.specs.declared.state.State.{State}
 use Rattle.parts.specs.Packed.{openedOf}
 use Rattle.parts.specs.Slots.{symbols, Below}
-use Rattle.parts.specs.Held.{envOf}
-use Rattle.parts.specs.Turned.{Bounds}
-use Rattle.parts.specs.TurnedLaws.{Stops, at-refused, Stays, on-refused}
+use Rattle.kinds.specs.Held.{envOf}
+use Rattle.kinds.specs.Turned.{Bounds}
+use Rattle.kinds.specs.TurnedLaws.{Stops, at-refused, Stays, on-refused}
 use Rattle.machine.specs.Told.{Told, came, stopped, afterRound, tells, rounding}
 use Rattle.machine.specs.ToldLaws.{tells-no-steps, tells-star}
 use Rattle.machine.specs.Ready.{grammarOf, stepLimit, depthLimit, roomLimit, Ready, readBack, Done, telling, starring}

@@ -8,12 +8,12 @@ use lib.ListN.{length}
 use Rattle.meaning.specs.State.{Env}
 use Rattle.parts.specs.declared.outcome.Outcome.{Outcome}
 use Rattle.parts.specs.declared.outcome.Outcome.the-variants.{Passed, Failed, Refused}
-use Rattle.parts.specs.declared.state.State.{State}
+use Rattle.kinds.specs.declared.state.State.{State}
 use Rattle.parts.specs.Packed.{openedOf}
 use Rattle.parts.specs.Slots.{symbols}
 use Rattle.parts.specs.SlotsLaws.{symbols-length, closes-once}
-use Rattle.parts.specs.Held.{envOf}
-use Rattle.parts.specs.Turned.{definedIn, ClosedOf}
+use Rattle.kinds.specs.Held.{envOf}
+use Rattle.kinds.specs.Turned.{definedIn, ClosedOf}
 use Rattle.machine.specs.Told.{Told}
 use Rattle.machine.specs.Ready.{readBack, Done}
 

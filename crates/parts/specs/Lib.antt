@@ -4,6 +4,3 @@ pub mod PackedLaws
 pub mod Slots
 pub mod SlotsLaws
 pub mod Seen
-pub mod Held
-pub mod Turned
-pub mod TurnedLaws

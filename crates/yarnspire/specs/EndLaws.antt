@@ -17,9 +17,9 @@ use Rattle.parts.specs.declared.outcome.Outcome.the-variants as ov
 use Rattle.parts.specs.Slots.{symbolAt, symbols}
 use Rattle.parts.specs.SlotsLaws.{symbols-length}
 use Rattle.parts.specs.Packed.{openedOf}
-use Rattle.parts.specs.declared.state.State as st
-use Rattle.parts.specs.Held.{envOf}
-use Rattle.parts.specs.Turned.{Bounds}
+use Rattle.kinds.specs.declared.state.State as st
+use Rattle.kinds.specs.Held.{envOf}
+use Rattle.kinds.specs.Turned.{Bounds}
 use Rattle.machine.specs.Told.{carry, tells}
 use Rattle.machine.specs.Ready.{grammarOf, stepLimit, depthLimit, roomLimit, Ready, Node as Numbered, readBack, Done, telling}
 use Rattle.machine.specs.ReadyLaws.{bounds-of}

@@ -7,11 +7,11 @@ ghost use Rattle.meaning.specs.Recognise.{allowed as Recognise·allowed};
 ghost use Rattle.parts.specs.Packed.{openedOf};
 ghost use Rattle.yarnspire.specs.Ended.{answerFor, keptOf, Kept, Runs, Ran};
 use crate::answer::Answer;
+use kinds::state::State;
 use machine::evaluate::eval;
 use parts::outcome::Outcome;
 use parts::outcome::opened;
 use parts::slots::zero;
-use parts::state::State;
 
 // Whether each limit is within its range.
 pub(crate) fn allowed(steps: u32, depth: u32, room: u32) -> bool

@@ -5,11 +5,11 @@ use native.Mathlib.Omega.{arith}
 use borrow.Author.Needs.{needs}
 use Rattle.grammar.specs.Grammar.{node}
 use Rattle.parts.specs.Slots.{symbols}
-use Rattle.parts.specs.TurnedLaws.{Stays}
+use Rattle.kinds.specs.TurnedLaws.{Stays}
 use Rattle.machine.specs.Ready.{grammarOf, telling}
 use Rattle.machine.specs.ReadyLaws.{ready-back}
 use Rattle.machine.specs.DoneLaws.{else-stay, else-go}
-use Rattle.parts.proofs.OutcomeLaws.{stays}
+use Rattle.kinds.proofs.OutcomeLaws.{stays}
 use Rattle.machine.proofs.evaluate.choice.Reads as choice
 use Rattle.machine.proofs.evaluate.+choice+eval+sequence+star.Lts-choice as lts
 use Rattle.machine.proofs.evaluate.+choice+eval+sequence+star.Proof.Cycle.{choice-at, choice-claims}

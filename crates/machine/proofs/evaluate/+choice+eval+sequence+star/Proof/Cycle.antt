@@ -19,23 +19,23 @@ use Rattle.image.proofs.node_of.Reads as node-of-reads
 use Rattle.parts.proofs.bytes.begins_with.Reads as begins-with-reads
 use Rattle.parts.proofs.bytes.within.Reads as within-reads
 use Rattle.machine.proofs.evaluate.greater.Reads as greater-reads
-use Rattle.parts.proofs.inside.again.Reads as again-reads
-use Rattle.parts.proofs.inside.closed.Reads as closed-reads
-use Rattle.parts.proofs.inside.defined.Reads as defined-reads
-use Rattle.parts.proofs.inside.given.Reads as given-reads
-use Rattle.parts.proofs.inside.is_latest.Reads as is-latest-reads
-use Rattle.parts.proofs.inside.is_some.Reads as is-some-reads
-use Rattle.parts.proofs.inside.negated.Reads as negated-reads
-use Rattle.parts.proofs.inside.restored.Reads as restored-reads
+use Rattle.kinds.proofs.inside.again.Reads as again-reads
+use Rattle.kinds.proofs.inside.closed.Reads as closed-reads
+use Rattle.kinds.proofs.inside.defined.Reads as defined-reads
+use Rattle.kinds.proofs.inside.given.Reads as given-reads
+use Rattle.kinds.proofs.inside.is_latest.Reads as is-latest-reads
+use Rattle.kinds.proofs.inside.is_some.Reads as is-some-reads
+use Rattle.kinds.proofs.inside.negated.Reads as negated-reads
+use Rattle.kinds.proofs.inside.restored.Reads as restored-reads
 use Rattle.parts.proofs.outcome.failed.Reads as failed-reads
 use Rattle.parts.proofs.outcome.opened.Reads as opened-reads
 use Rattle.parts.proofs.outcome.passed.Reads as passed-reads
 use Rattle.parts.proofs.outcome.refused.Reads as refused-reads
 use Rattle.parts.proofs.slots.latest.Reads as latest-reads
-use Rattle.parts.proofs.state.floor.Reads as floor-reads
-use Rattle.parts.proofs.state.truth.Reads as truth-reads
-use Rattle.parts.proofs.state.with_floor.Reads as with-floor-reads
-use Rattle.parts.proofs.state.with_truth.Reads as with-truth-reads
+use Rattle.kinds.proofs.state.floor.Reads as floor-reads
+use Rattle.kinds.proofs.state.truth.Reads as truth-reads
+use Rattle.kinds.proofs.state.with_floor.Reads as with-floor-reads
+use Rattle.kinds.proofs.state.with_truth.Reads as with-truth-reads
 
 abbrev pub μ-choice : Measures 4 choice-kinds.ps ℕ
 μ-choice κs a = a .1 .1 .1 .1 .1 .0 * 2 + 1

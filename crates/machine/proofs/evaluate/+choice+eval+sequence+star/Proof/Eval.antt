@@ -10,7 +10,7 @@ use lib.ListN.{length, take, drop, getD}
 use Rattle.meaning.specs.State.{visible}
 use Rattle.meaning.specs.Outcome.{same, some, part, text, begins, among}
 use Rattle.parts.specs.Slots.{symbolAt, symbols}
-use Rattle.parts.specs.Held.{envOf}
+use Rattle.kinds.specs.Held.{envOf}
 use Rattle.parts.specs.Seen.{listed}
 use Rattle.machine.specs.Ready.{roomLimit}
 use Rattle.machine.specs.ReadyLaws.{below-same}

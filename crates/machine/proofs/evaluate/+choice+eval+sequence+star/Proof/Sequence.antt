@@ -5,12 +5,12 @@ use native.Mathlib.Omega.{arith}
 use borrow.Author.Needs.{needs}
 use lib.ListN.{length}
 use Rattle.grammar.specs.Grammar.{node}
-use Rattle.parts.specs.Turned.{Bounds}
-use Rattle.parts.specs.TurnedLaws.{Stops}
+use Rattle.kinds.specs.Turned.{Bounds}
+use Rattle.kinds.specs.TurnedLaws.{Stops}
 use Rattle.machine.specs.Ready.{grammarOf, roomLimit, telling}
 use Rattle.machine.specs.ReadyLaws.{bounds-of, ready-next}
 use Rattle.machine.specs.DoneLaws.{then-stop, then-go}
-use Rattle.parts.proofs.OutcomeLaws.{stops}
+use Rattle.kinds.proofs.OutcomeLaws.{stops}
 use Rattle.machine.proofs.evaluate.sequence.Reads as sequence
 use Rattle.machine.proofs.evaluate.+choice+eval+sequence+star.Lts-sequence as lts
 use Rattle.machine.proofs.evaluate.+choice+eval+sequence+star.Proof.Cycle.{sequence-at, sequence-claims}

@@ -5,12 +5,12 @@ use mathlib.Core.Path.{sym, _∙_, subst}
 use native.Mathlib.Omega.{arith}
 use borrow.Author.Needs.{needs}
 use Rattle.grammar.specs.Grammar.{node}
-use Rattle.parts.specs.Turned.{Bounds}
-use Rattle.parts.specs.TurnedLaws.{Stops, Stays}
+use Rattle.kinds.specs.Turned.{Bounds}
+use Rattle.kinds.specs.TurnedLaws.{Stops, Stays}
 use Rattle.machine.specs.Ready.{grammarOf, roomLimit}
 use Rattle.machine.specs.ReadyLaws.{bounds-of, ready-next}
 use Rattle.machine.specs.StarLaws.{Rounds, rounds-start, star-refuses, star-ends, star-empty, star-spent, star-again}
-use Rattle.parts.proofs.OutcomeLaws.{stops, stays}
+use Rattle.kinds.proofs.OutcomeLaws.{stops, stays}
 use Rattle.machine.proofs.evaluate.star.Reads as star
 use Rattle.machine.proofs.evaluate.+choice+eval+sequence+star.Lts-star as lts
 use Rattle.machine.proofs.evaluate.+choice+eval+sequence+star.Proof.Cycle.{star-at, star-claims}

@@ -5,20 +5,20 @@ ghost use Prim.Native.Nat.{_+_, _*_, _≤_};
 ghost use lib.ListN.{length, drop};
 ghost use Rattle.meaning.specs.Outcome.{same, part, text, begins, among};
 ghost use Rattle.meaning.specs.Inside.{Part};
 ghost use Rattle.parts.specs.Packed.{openedOf};
 ghost use Rattle.parts.specs.Slots.{symbolAt, Parts};
 ghost use Rattle.parts.specs.Seen.{listed};
-ghost use Rattle.parts.specs.Turned.{Bounds, givenOf, negatedOf, restoredOf, comparedOf, definedOf, definedIn, Lent, ClosedOf};
-use crate::bytes::begins_with;
-use crate::compare::is_listed;
-use crate::compare::is_symbol;
-use crate::outcome::Outcome;
-use crate::outcome::failed;
-use crate::outcome::opened;
-use crate::outcome::passed;
-use crate::outcome::refused;
-use crate::slots::close;
-use crate::slots::store;
+ghost use Rattle.kinds.specs.Turned.{Bounds, givenOf, negatedOf, restoredOf, comparedOf, definedOf, definedIn, Lent, ClosedOf};
+use parts::bytes::begins_with;
+use parts::compare::is_listed;
+use parts::compare::is_symbol;
+use parts::outcome::Outcome;
+use parts::outcome::failed;
+use parts::outcome::opened;
+use parts::outcome::passed;
+use parts::outcome::refused;
+use parts::slots::close;
+use parts::slots::store;
 
 // A test that nothing stands inside of: it passes to a place, or it fails.
 pub fn given(ok: bool, at: u32, held: u32, steps: u32, depth: u32) -> u64

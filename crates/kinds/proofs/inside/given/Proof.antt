@@ -1,10 +1,10 @@
 -- `given` meets its promise. Assumes nothing.
 use mathlib.Core.Path.{_≡_, ap, sym, _∙_}
 use Rattle.image.specs.Reading.{pick}
 use Rattle.parts.specs.declared.outcome.Outcome.the-variants.{Passed, Failed}
 use borrow.Author.Needs.{needs}
-use Rattle.parts.proofs.inside.given.Statement.{statement}
-use Rattle.parts.proofs.inside.given.Tie as tie
+use Rattle.kinds.proofs.inside.given.Statement.{statement}
+use Rattle.kinds.proofs.inside.given.Tie as tie
 
 passed-requires : tie.Need-passed-requires
 passed-requires c κs = let p = c .before .pre in (p .0 (c .if1 .taken), p .1, p .2, p .3)

@@ -4,10 +4,10 @@ use mathlib.Core.Path.{_≡_}
 use mathlib.Core.Logic.{_⊎_, inl, inr}
 use native.Mathlib.Omega.{arith}
 use denote.Enum.Declared.{tagOf}
 use Rattle.parts.proofs.outcome.Outcome.{the-type}
 use Rattle.parts.specs.declared.outcome.Outcome.{Outcome}
 use Rattle.parts.specs.declared.outcome.Outcome.the-variants.{Passed, Failed, Refused}
-use Rattle.parts.specs.TurnedLaws.{Stops, at-failed, at-refused, Stays, on-passed, on-refused}
+use Rattle.kinds.specs.TurnedLaws.{Stops, at-failed, at-refused, Stays, on-passed, on-refused}
 
 pub stops : (o : Outcome) → (tagOf the-type o ≡ 1) ⊎ (tagOf the-type o ≡ 2) → Stops o
 stops (Passed a h s d) (inl e) = absurd (omega arith)

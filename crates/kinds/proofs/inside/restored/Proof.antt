@@ -1,12 +1,12 @@
 -- `restored` meets its promise. Assumes nothing.
 use mathlib.Core.Path.{_≡_, refl, ap, sym, _∙_, subst}
 use native.Mathlib.Omega.{arith}
-use Rattle.parts.specs.Turned.{Bounds, restoredOf}
-use Rattle.parts.specs.TurnedLaws.{Stops, restored-stops}
-use Rattle.parts.proofs.OutcomeLaws.{stops}
+use Rattle.kinds.specs.Turned.{Bounds, restoredOf}
+use Rattle.kinds.specs.TurnedLaws.{Stops, restored-stops}
+use Rattle.kinds.proofs.OutcomeLaws.{stops}
 use borrow.Author.Needs.{needs}
-use Rattle.parts.proofs.inside.restored.Statement.{statement}
-use Rattle.parts.proofs.inside.restored.Tie as tie
+use Rattle.kinds.proofs.inside.restored.Statement.{statement}
+use Rattle.kinds.proofs.inside.restored.Tie as tie
 
 opened-requires : tie.Need-opened-requires
 opened-requires c κs = search needs

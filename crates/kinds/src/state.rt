@@ -3,7 +3,7 @@ ghost use mathlib.Core.Path.{_≡_};
 ghost use mathlib.Core.Bool.{true};
 ghost use Prim.Native.Nat.{_≤_, _<_};
 ghost use lib.ListN.{length, getD};
-ghost use Rattle.parts.specs.Held.{envOf, hiding};
+ghost use Rattle.kinds.specs.Held.{envOf, hiding};
 ghost use Rattle.meaning.specs.State.{switch};
 
 // The truth of each condition; for each table how many symbols were held when its innermost Local was entered.

@@ -2,12 +2,12 @@
 use mathlib.Core.Path.{_≡_, refl, ap, sym, _∙_, subst}
 use native.Mathlib.Omega.{arith}
 use mathlib.Core.Logic.{inr}
-use Rattle.parts.specs.Turned.{Bounds, negatedOf}
-use Rattle.parts.specs.TurnedLaws.{Stops, Stays, negated-stops}
-use Rattle.parts.proofs.OutcomeLaws.{stops, stays}
+use Rattle.kinds.specs.Turned.{Bounds, negatedOf}
+use Rattle.kinds.specs.TurnedLaws.{Stops, Stays, negated-stops}
+use Rattle.kinds.proofs.OutcomeLaws.{stops, stays}
 use borrow.Author.Needs.{needs}
-use Rattle.parts.proofs.inside.negated.Statement.{statement}
-use Rattle.parts.proofs.inside.negated.Tie as tie
+use Rattle.kinds.proofs.inside.negated.Statement.{statement}
+use Rattle.kinds.proofs.inside.negated.Tie as tie
 
 opened-requires : tie.Need-opened-requires
 opened-requires c κs = search needs

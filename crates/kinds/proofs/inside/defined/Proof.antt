@@ -1,12 +1,12 @@
 -- `defined` meets its promise. Assumes nothing.
 use mathlib.Core.Path.{_≡_, refl, ap, sym, _∙_, subst}
 use native.Mathlib.Omega.{arith}
-use Rattle.parts.specs.Turned.{Bounds}
-use Rattle.parts.specs.TurnedLaws.{Stops, defined-stops, defined-stores, defined-full}
-use Rattle.parts.proofs.OutcomeLaws.{stops}
+use Rattle.kinds.specs.Turned.{Bounds}
+use Rattle.kinds.specs.TurnedLaws.{Stops, defined-stops, defined-stores, defined-full}
+use Rattle.kinds.proofs.OutcomeLaws.{stops}
 use borrow.Author.Needs.{needs}
-use Rattle.parts.proofs.inside.defined.Statement.{statement}
-use Rattle.parts.proofs.inside.defined.Tie as tie
+use Rattle.kinds.proofs.inside.defined.Statement.{statement}
+use Rattle.kinds.proofs.inside.defined.Tie as tie
 
 opened-requires : tie.Need-opened-requires
 opened-requires c κs = search needs

@@ -1,9 +1,9 @@
 -- `truth` meets its promise. Assumes nothing.
 use mathlib.Core.Bool.{true, false}
-use Rattle.parts.specs.Held.{getD-any}
+use Rattle.kinds.specs.Held.{getD-any}
 use borrow.Author.Needs.{needs}
-use Rattle.parts.proofs.state.truth.Statement.{statement}
-use Rattle.parts.proofs.state.truth.Tie as tie
+use Rattle.kinds.proofs.state.truth.Statement.{statement}
+use Rattle.kinds.proofs.state.truth.Tie as tie
 
 array-read-result : tie.Need-array-read-result
 array-read-result c = search needs

@@ -2,14 +2,14 @@
 use mathlib.Core.Path.{_≡_, refl, ap, sym, _∙_, subst}
 use native.Mathlib.Omega.{arith}
 use Rattle.meaning.specs.Outcome.{part, among}
 use Rattle.parts.specs.Seen.{listed}
-use Rattle.parts.specs.Turned.{Bounds, givenOf, comparedOf}
-use Rattle.parts.specs.TurnedLaws.{Stops, compared-stops}
+use Rattle.kinds.specs.Turned.{Bounds, givenOf, comparedOf}
+use Rattle.kinds.specs.TurnedLaws.{Stops, compared-stops}
 use lib.ListN.{length}
-use Rattle.parts.proofs.OutcomeLaws.{stops}
+use Rattle.kinds.proofs.OutcomeLaws.{stops}
 use borrow.Author.Needs.{needs}
-use Rattle.parts.proofs.inside.is_some.Statement.{statement}
-use Rattle.parts.proofs.inside.is_some.Tie as tie
+use Rattle.kinds.proofs.inside.is_some.Statement.{statement}
+use Rattle.kinds.proofs.inside.is_some.Tie as tie
 
 opened-requires : tie.Need-opened-requires
 opened-requires c κs = search needs

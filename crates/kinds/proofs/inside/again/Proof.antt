@@ -6,12 +6,12 @@ use native.Mathlib.Omega.{arith}
 use lib.ListN.{drop, length-drop}
 use Rattle.meaning.specs.Outcome.{text, begins}
 use Rattle.meaning.specs.Forward.{begins-fits}
 use Rattle.parts.specs.Slots.{symbolAt}
-use Rattle.parts.specs.Turned.{givenOf}
-use Rattle.parts.specs.TurnedLaws.{text-length}
+use Rattle.kinds.specs.Turned.{givenOf}
+use Rattle.kinds.specs.TurnedLaws.{text-length}
 use borrow.Author.Needs.{needs}
-use Rattle.parts.proofs.inside.again.Statement.{statement}
-use Rattle.parts.proofs.inside.again.Tie as tie
+use Rattle.kinds.proofs.inside.again.Statement.{statement}
+use Rattle.kinds.proofs.inside.again.Tie as tie
 
 mul-i : tie.Need-mul-i
 mul-i c = search needs

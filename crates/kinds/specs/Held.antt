@@ -5,7 +5,7 @@ use mathlib.Core.List.{List, [], _∷_}
 use native.Mathlib.Omega.{arith}
 use lib.ListN.{length, getD, set}
 use Rattle.meaning.specs.State.{Env}
-use Rattle.parts.specs.declared.state.State.{State}
+use Rattle.kinds.specs.declared.state.State.{State}
 
 abbrev pub envOf : State → Env
 envOf s = record { truths = s .truths; floors = s .floors }
