@@ -125,6 +125,9 @@ module _ {held : ℕ} {before after : List ℕ} {r : ℕ} {T : Told} (done : Don
       go (Failed s d) = refl
       go (Refused n p s d) = refl
 
+  framed : {end : List ℕ} → end ≡ after → Below held before end
+  framed f = record { long = ap length f ∙ done .frame .long; same = λ k m. ap (λ l. getD l k 0) f ∙ done .frame .same k m }
+
   -- A name is stored where there is room for it.
   pub done-def : (room table at : ℕ) → room * 3 ≤ length before → {end : List ℕ} {q : ℕ}
       → openedOf q ≡ definedOf room table at held (openedOf r) → end ≡ definedIn room table at held (openedOf r) after
@@ -151,7 +154,7 @@ module _ {held : ℕ} {before after : List ℕ} {r : ℕ} {T : Told} (done : Don
           )
       stored a s d false l e f = (
         ap (λ o. readBack o end) e,
-        record { long = ap length f ∙ done .frame .long; same = λ k m. ap (λ l. getD l k 0) f ∙ done .frame .same k m },
+        framed f,
       )
 
       go : (o : Outcome) → readBack o after ≡ T → openedOf q ≡ definedOf room table at held o → end ≡ definedIn room table at held o after
@@ -167,11 +170,11 @@ module _ {held : ℕ} {before after : List ℕ} {r : ℕ} {T : Told} (done : Don
           }
       go (Failed s d) t e f = record {
         says = ap (λ o. readBack o end) e ∙ ap (λ T. andThen T next) t;
-        frame = record { long = ap length f ∙ done .frame .long; same = λ k m. ap (λ l. getD l k 0) f ∙ done .frame .same k m };
+        frame = framed f;
       }
       go (Refused n p s d) t e f = record {
         says = ap (λ o. readBack o end) e ∙ ap (λ T. andThen T next) t;
-        frame = record { long = ap length f ∙ done .frame .long; same = λ k m. ap (λ l. getD l k 0) f ∙ done .frame .same k m };
+        frame = framed f;
       }
 
   -- A scope is closed.
@@ -193,9 +196,9 @@ module _ {held : ℕ} {before after : List ℕ} {r : ℕ} {T : Told} (done : Don
           }
       go (Failed s d) t w = record {
         says = ap (λ o. readBack o end) (w .0) ∙ ap (become (closed table σ)) t;
-        frame = record { long = ap length (w .1) ∙ done .frame .long; same = λ k m. ap (λ l. getD l k 0) (w .1) ∙ done .frame .same k m };
+        frame = framed (w .1);
       }
       go (Refused n p s d) t w = record {
         says = ap (λ o. readBack o end) (w .0) ∙ ap (become (closed table σ)) t;
-        frame = record { long = ap length (w .1) ∙ done .frame .long; same = λ k m. ap (λ l. getD l k 0) (w .1) ∙ done .frame .same k m };
+        frame = framed (w .1);
       }

@@ -24,7 +24,7 @@ use Rattle.parts.specs.SlotsLaws.{symbols-length}
 use Rattle.kinds.specs.Held.{envOf, hiding}
 use Rattle.machine.specs.Told.{Told, came, stopped, andThen, orElse, become, tells}
 use Rattle.machine.specs.ToldLaws.{tells-sequence, tells-choice, tells-star, tells-not, tells-call, tells-block, tells-local, tells-on, tells-def, Naming, with-latest, with-some, tells-none, tells-named, tells-empty, tells-byte, tells-range, tells-any, tells-text, tells-match, tells-exists, tells-if}
-use Rattle.machine.specs.ReadyLaws.{kept-below, below-same}
+use Rattle.machine.specs.ReadyLaws.{kept-below, below-same, moved}
 use Rattle.machine.specs.Ready.{grammarOf, stepLimit, depthLimit, roomLimit, Ready, Node as Numbered, telling, starring}
 
 -- ## Tests on a byte
@@ -112,21 +112,10 @@ module _ {code image input slots : List ℕ} {left number at held spent deepest 
 
   -- What stands inside may be run, with one depth less.
   pub below : Ready code image input slots (left - 1) at held (spent + 1) depth
-  below = let r = E .ready in record {
-    coded = r .coded;
-    few-steps = r .few-steps;
-    small-depth = r .small-depth;
-    small-room = r .small-room;
-    lent = r .lent;
-    short = r .short;
-    place = r .place;
-    room = r .room;
-    spent = omega (arith, E .step);
-    deep = omega (arith, r .deep);
-    reached = omega (arith, E .deeper);
-    entered = omega (arith, E .deeper, r .entered, r .deep, E .more);
-    parts = r .parts;
-  }
+  below =
+      let r = E .ready in
+      moved r refl (r .place) (r .room) (omega (arith, E .step)) (omega (arith, r .deep)) (omega (arith, E .deeper))
+      (omega (arith, E .deeper, r .entered, r .deep, E .more)) (r .parts)
 
   -- What the word of the node says it is.
   abbrev pub Kind : Node → Type 0

@@ -107,6 +107,27 @@ below-then l f h = record { long = h .long ∙ f .long; same = λ k m. h .same k
 pub below-same : (held : ℕ) (slots : List ℕ) → Below held slots slots
 below-same held slots = record { long = refl; same = λ k m. refl }
 
+-- What stays in a run stays: the array, the limits, the input, the length of the slots. The rest is to be shown anew.
+pub moved : {code image input before after : List ℕ} {left left′ at at′ held held′ s s′ d d′ : ℕ} → Ready code image input before left at held s d
+    → length after ≡ length before → at′ ≤ length input → held′ ≤ roomLimit code → s′ ≤ stepLimit code → left′ ≤ depthLimit code
+    → depthLimit code - left′ ≤ d′ → d′ ≤ depthLimit code → ((y : Symbol) → List·Memᴰ y (symbols held′ after) → Part (length input) y)
+    → Ready code image input after left′ at′ held′ s′ d′
+moved ready long place room spent deep reached entered parts = record {
+  coded = ready .coded;
+  few-steps = ready .few-steps;
+  small-depth = ready .small-depth;
+  small-room = ready .small-room;
+  lent = long ∙ ready .lent;
+  short = ready .short;
+  place = place;
+  room = room;
+  spent = spent;
+  deep = deep;
+  reached = reached;
+  entered = entered;
+  parts = parts;
+}
+
 module _ {code image input before after : List ℕ} {left at held s d : ℕ} {r : ℕ} (state : State) (e : Expr)
     (ready : Ready code image input before left at held s d)
     (done : Done held before after r (telling code image input state left s d e at (symbols held before))) where
@@ -152,38 +173,12 @@ module _ {code image input before after : List ℕ} {left at held s d : ℕ} {r 
   pub ready-next : {a h s′ d′ : ℕ} → openedOf r ≡ Passed a h s′ d′ → Ready code image input after left a h s′ d′
   ready-next {a} {h} {s′} {d′} f =
       let w = went h (ap (λ o. readBack o after) (sym f) ∙ done .says) in
-      record {
-        coded = ready .coded;
-        few-steps = ready .few-steps;
-        small-depth = ready .small-depth;
-        small-room = ready .small-room;
-        lent = done .frame .long ∙ ready .lent;
-        short = ready .short;
-        place = w .inside;
-        room = omega (arith, w .room, symbols-length h after);
-        spent = w .spent;
-        deep = ready .deep;
-        reached = omega (arith, ready .reached, w .deeper);
-        entered = w .entered;
-        parts = w .parts (ready .parts);
-      }
+      moved ready (done .frame .long) (w .inside) (omega (arith, w .room, symbols-length h after)) (w .spent) (ready .deep)
+      (omega (arith, ready .reached, w .deeper)) (w .entered) (w .parts (ready .parts))
 
   -- where it failed, from the same place with the same symbols.
   pub ready-back : {s′ d′ : ℕ} → openedOf r ≡ Failed s′ d′ → Ready code image input after left at held s′ d′
   ready-back {s′} {d′} f =
       let w = stayed (ap (λ o. readBack o after) (sym f) ∙ done .says) in
-      record {
-        coded = ready .coded;
-        few-steps = ready .few-steps;
-        small-depth = ready .small-depth;
-        small-room = ready .small-room;
-        lent = done .frame .long ∙ ready .lent;
-        short = ready .short;
-        place = ready .place;
-        room = ready .room;
-        spent = w .spent;
-        deep = ready .deep;
-        reached = omega (arith, ready .reached, w .deeper);
-        entered = w .entered;
-        parts = λ y i. ready .parts y (subst (List·Memᴰ y) (kept-below (done .frame)) i);
-      }
+      moved ready (done .frame .long) (ready .place) (ready .room) (w .spent) (ready .deep) (omega (arith, ready .reached, w .deeper))
+      (w .entered) (λ y i. ready .parts y (subst (List·Memᴰ y) (kept-below (done .frame)) i))

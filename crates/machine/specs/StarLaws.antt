@@ -22,7 +22,7 @@ use Rattle.kinds.specs.TurnedLaws.{Stops, at-refused, Stays, on-refused}
 use Rattle.machine.specs.Told.{Told, came, stopped, afterRound, tells, rounding}
 use Rattle.machine.specs.ToldLaws.{tells-no-steps, tells-star}
 use Rattle.machine.specs.Ready.{grammarOf, stepLimit, depthLimit, roomLimit, Ready, readBack, Done, telling, starring}
-use Rattle.machine.specs.ReadyLaws.{kept-below, below-then, below-same, bounds-of, ready-next}
+use Rattle.machine.specs.ReadyLaws.{kept-below, below-then, below-same, moved, bounds-of, ready-next}
 
 module _ (code image input before : List ℕ) (state : State) (left a at held s d : ℕ) where
   abbrev whole : Told
@@ -93,21 +93,7 @@ module _ (code image input before : List ℕ) (state : State) (left a at held s 
       star-again l m i =
           let g = gone in
           record {
-            ready = record {
-              coded = g .coded;
-              few-steps = g .few-steps;
-              small-depth = g .small-depth;
-              small-room = g .small-room;
-              lent = g .lent;
-              short = g .short;
-              place = g .place;
-              room = g .room;
-              spent = omega (arith, m);
-              deep = g .deep;
-              reached = g .reached;
-              entered = g .entered;
-              parts = g .parts;
-            };
+            ready = moved g refl (g .place) (g .room) (omega (arith, m)) (g .deep) (g .reached) (g .entered) (g .parts);
             same = charged-as (g .reached) ∙ rest l;
             frame = framed;
             more = omega (arith, inv .more, held-more);
