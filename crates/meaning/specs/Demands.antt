@@ -67,7 +67,7 @@ module _ (g : Grammar) (x : List ℕ) (B D R : ℕ) where
 
   -- DEMAND 2, of an answer. Accepted n, or failed, exactly if the rules have a derivation of that within the limits; refused 12 to 15
   -- exactly if there is none, and then as the run that is cut short says; the count is the derivation's own steps, also where it is cut short.
-  -- (That there is at most one derivation is `unique`.)
+  -- (That there is at most one derivation is `unique` in Unique.antt.)
   pub record Demand2 (a : Answer) : Type 0 where
     pub accepts : (n : ℕ) → ((a .kind ≡ 0) × (a .consumed ≡ n)) ↔ Accepts n
     pub fails : (a .kind ≡ 99) ↔ Fails

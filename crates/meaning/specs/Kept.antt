@@ -1,5 +1,5 @@
 -- Demand 3's strike-out: the definitions that remain of a derivation, in the order in which they were made. It goes by the
--- derivation alone and never looks at a state.
+-- derivation alone and never looks at a state. It is meant for a derivation that passes; what fails is struck out by what it stands in.
 use Prim.Native.Nat.{ℕ}
 use mathlib.Core.List.{List, [], _∷_, _++_}
 use Rattle.grammar.specs.Expr.{Expr}

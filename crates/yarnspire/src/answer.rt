@@ -6,8 +6,8 @@ pub enum Verdict {
     Refused { number: u32, place: u32 },
 }
 
-// Accepted, with how many bytes of the input; failed; or refused, with a number from 1 to 15 and a place. With the steps and the greatest
-// depth as far as charged, and with the number of symbols that the slots hold.
+// Accepted, with how many bytes of the input and how many symbols the slots then hold; failed; or refused, with a number from 1 to 15 and a
+// place. Each with the steps and the greatest depth, as far as charged.
 pub enum Answer {
     Accepted {
         consumed: u32,

@@ -43,7 +43,8 @@ fn refuse(number: u32, place: u32) -> Answer
 }
 
 // Runs an input through the grammar of an image. `steps`, `depth` and `room` are 01's limits B, D and R. Accepted fills the slots with table,
-// start and end of each held symbol, oldest first, and zeros up to 3R; failed and 12 to 15 put zeros there; 1 to 11 leave them as they are.
+// start and end of each held symbol, oldest first, and zeros up to 3R; failed and 12 to 15 put zeros there; 1 to 11 leave them as they are. What
+// lies past 3R keeps its values.
 pub fn recognise(
     image: &[u8],
     input: &[u8],
