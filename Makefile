@@ -1,17 +1,24 @@
-# Two commands do everything on a machine that has the Rattle kit:
-#   make run    checks the sample image and prints what it found
-#   make test   the layout, the programs on odd files, and the proof of every crate
-.PHONY: run test
+# On a machine that has the Rattle kit:
+#   make run      the story of the README, on a sample bulletin
+#   make test     everything that is checked: the layout, the programs, the library against an independent one, and the proof of every crate
+#   make bench    how fast it is: a table and two plots in docs/bench/
+.PHONY: run test bench
 
 run:
-	@scripts/build inspect
-	@echo "samples/harbour.image, 26 bytes:"
-	@od -An -tx1 -v samples/harbour.image
-	@echo "checked, and found to be this grammar:"
-	@scripts/program inspect samples/harbour.image
+	@scripts/build names
+	@scripts/story
 
+# The proof comes last, so that the last line says how it went.
 test:
 	rt fmt --check
-	scripts/build inspect
-	scripts/test-inspect
+	scripts/build inspect recognise names
+	scripts/test-programs
+	scripts/archive
+	scripts/harness test
+	scripts/harness compare
+	scripts/harness stack
+	scripts/harness-c
 	rt ci
+
+bench:
+	scripts/bench

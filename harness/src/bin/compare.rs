@@ -1,0 +1,126 @@
+//! Holds the proved library against the reference on 01's own cases and on random ones.
+//!
+//! `compare [SEED [COUNT]]` runs so many random cases: both answers, check's answer and every slot must be equal, and there must be enough cases of every
+//! sort. Wrong machines run some of the cases too, and each must be told apart. `compare --case IMAGE INPUT B D R SLOTS` runs one case and prints what
+//! both make of it.
+
+use std::process::exit;
+
+use yarnspire::cases::{Case, Maker, Seen};
+use yarnspire::harbour;
+use yarnspire::reference::Fault;
+use yarnspire::tally::Tally;
+
+const SEED: u64 = 20_260_101;
+const COUNT: u64 = 300_000;
+
+/// The wrong machines run this many cases, the first ones.
+const WRONG_COUNT: u64 = 50_000;
+/// Each must differ from the reference in at least this many of them.
+const WRONG_WANTED: u64 = 30;
+
+fn main() {
+    let words: Vec<String> = std::env::args().skip(1).collect();
+    let done = match words.as_slice() {
+        [] => compare(SEED, COUNT),
+        [option, case @ ..] if option == "--case" => rerun(case),
+        [seed] => number(seed).and_then(|seed| compare(seed, COUNT)),
+        [seed, count] => number(seed).and_then(|seed| compare(seed, number(count)?)),
+        _ => Err("usage: compare [SEED [COUNT]] | compare --case IMAGE INPUT B D R SLOTS".into()),
+    };
+    if let Err(what) = done {
+        eprintln!("{what}");
+        exit(1);
+    }
+}
+
+fn number(word: &str) -> Result<u64, String> {
+    word.parse().map_err(|_| format!("'{word}' is no number"))
+}
+
+fn compare(seed: u64, count: u64) -> Result<(), String> {
+    println!("library and reference answer 01's {} Harbour cases as 01 says", harbour::run()?);
+    println!("seed {seed}, {count} cases");
+    let mut maker = Maker::new(seed);
+    let mut tally = Tally::default();
+    let mut wrong: Vec<Wrong> = Fault::ALL.iter().map(|(fault, name)| Wrong { fault: *fault, name, differs: 0, first: None }).collect();
+    for i in 1..=count {
+        let case = maker.case();
+        let (expected, trace) = case.by_reference(None);
+        let got = case.by_library();
+        if got != expected {
+            show(&expected, &got);
+            return Err(format!("case {i} differs; to run it again: compare --case {}", case.words()));
+        }
+        tally.count(&expected.answer, &trace);
+        if i <= WRONG_COUNT {
+            wrong.iter_mut().for_each(|machine| machine.run(i, &case, &expected));
+        }
+    }
+    println!("library and reference agree in all: check, the six numbers, every slot");
+    print!("{tally}");
+    println!("wrong machines, and in how many of the first {WRONG_COUNT} cases each is told apart:");
+    wrong.iter().for_each(Wrong::print);
+    if count < COUNT {
+        println!("fewer than {COUNT} cases: no count is asked for");
+        return Ok(());
+    }
+    let mut faults = tally.faults();
+    faults.extend(wrong.iter().filter_map(Wrong::shortage));
+    if faults.is_empty() {
+        println!("ok");
+        return Ok(());
+    }
+    Err(faults.join("\n"))
+}
+
+/// A wrong machine, with the number of cases that tell it from the reference, and the first of them.
+struct Wrong {
+    fault: Fault,
+    name: &'static str,
+    differs: u64,
+    first: Option<u64>,
+}
+
+impl Wrong {
+    fn run(&mut self, number: u64, case: &Case, expected: &Seen) {
+        if case.by_reference(Some(self.fault)).0 != *expected {
+            self.differs += 1;
+            self.first = self.first.or(Some(number));
+        }
+    }
+
+    fn print(&self) {
+        let first = self.first.map_or("never".into(), |number| format!("first in case {number}"));
+        println!("  {:7} {} ({first})", self.differs, self.name);
+    }
+
+    fn shortage(&self) -> Option<String> {
+        if self.differs < WRONG_WANTED {
+            return Some(format!("{} cases tell apart '{}', fewer than {WRONG_WANTED}", self.differs, self.name));
+        }
+        None
+    }
+}
+
+fn rerun(words: &[String]) -> Result<(), String> {
+    let case = Case::read(words)?;
+    let (expected, _) = case.by_reference(None);
+    let got = case.by_library();
+    show(&expected, &got);
+    if got != expected {
+        return Err("they differ".into());
+    }
+    println!("they agree");
+    Ok(())
+}
+
+fn show(expected: &Seen, got: &Seen) {
+    for (who, seen) in [("reference", expected), ("library", got)] {
+        let (number, place) = seen.verdict;
+        println!("{who}:");
+        println!("  check: number {number}, place {place}");
+        println!("  {}", seen.answer);
+        println!("  slots and what lies behind them: {:x?}", seen.memory);
+    }
+}
