@@ -8,7 +8,7 @@ mod maker;
 pub use maker::Maker;
 
 use crate::reference::{self, Fault, Trace};
-use crate::{check_numbers, hex, recognise_numbers, Limits, Numbers};
+use crate::{check_numbers, hex, plain, recognise_numbers, Limits, Numbers};
 
 /// One call.
 pub struct Case {
@@ -48,6 +48,13 @@ impl Case {
         let mut memory = self.memory();
         let answer = recognise_numbers(&self.image, &self.input, self.limits, &mut memory[..self.slots]);
         Seen { verdict: check_numbers(&self.image), answer, memory }
+    }
+
+    /// The plain implementation's answer.
+    pub fn by_plain(&self) -> Seen {
+        let mut memory = self.memory();
+        let answer = plain::recognise(&self.image, &self.input, self.limits, &mut memory[..self.slots]);
+        Seen { verdict: plain::check(&self.image), answer, memory }
     }
 
     /// The reference's answer, or a wrong machine's.

@@ -1,4 +1,4 @@
-//! 01's Harbour cases, with the answers that 01 gives. They hold the reference to 01, and the library too.
+//! 01's Harbour cases, with the answers that 01 gives. They hold the reference to 01, and the library and the plain implementation too.
 
 use crate::cases::{Case, Seen};
 use crate::grammar::{Grammar, Node};
@@ -7,13 +7,13 @@ use crate::{Limits, Numbers};
 /// A case, and whether an answer is the one that 01 gives.
 type Known = (&'static str, Case, fn(&Seen) -> bool);
 
-/// Runs all cases by the library and by the reference: how many there are, or the first that is not answered as 01 says.
+/// Runs all cases by the library and by both other implementations: how many there are, or the first that is not answered as 01 says.
 pub fn run() -> Result<usize, String> {
     let cases: Vec<Known> = with_names().into_iter().chain(further()).chain(numbers()).collect();
     for (name, case, right) in &cases {
-        for (who, seen) in [("library", case.by_library()), ("reference", case.by_reference(None).0)] {
+        for (who, seen) in [("library", case.by_library()), ("plain Rust", case.by_plain()), ("reference", case.by_reference(None).0)] {
             if !right(&seen) {
-                return Err(format!("Harbour case '{name}': the {who} answers {}, slots {:x?}", seen.answer, seen.memory));
+                return Err(format!("Harbour case '{name}': {who} answers {}, slots {:x?}", seen.answer, seen.memory));
             }
         }
     }

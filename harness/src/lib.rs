@@ -30,6 +30,7 @@ pub mod harbour;
 pub mod hex;
 pub mod inputs;
 pub mod listing;
+pub mod plain;
 pub mod random;
 pub mod reference;
 pub mod tally;

@@ -1,5 +1,5 @@
-//! The proved library, the second implementation and LPeg, timed on the same grammars and inputs in one run. Run by scripts/bench from the
-//! repository's folder; writes docs/bench/.
+//! The proved library, the same rules in plain Rust, the reference and LPeg, timed on the same grammars and inputs in one run. Run by scripts/bench
+//! from the repository's folder; writes docs/bench/.
 
 use std::env;
 use std::fmt::Write as _;
@@ -9,7 +9,7 @@ use std::os::raw::c_long;
 use std::process::{Child, ChildStdin, ChildStdout, Command, Stdio};
 
 use yarnspire::inputs::{typedef_holding, Kind, KINDS};
-use yarnspire::{recognise_numbers, reference, Limits, Numbers};
+use yarnspire::{plain, recognise_numbers, reference, Limits, Numbers};
 
 const SIZES: [usize; 3] = [2_000, 8_000, 30_000];
 const NAMES_HELD: [usize; 5] = [20, 50, 100, 200, 250];
@@ -31,7 +31,7 @@ fn main() {
     let by_size = KINDS.iter().flat_map(|kind| SIZES.map(|bytes| (kind, bytes))).map(|(kind, bytes)| sized(kind, bytes, &mut lua)).collect();
     let by_names = NAMES_HELD.iter().map(|&names| holding(names, &mut lua)).collect();
     let on_nothing = vec![empty(&mut lua)];
-    println!("the library and the reference agree on every input, and LPeg accepts what they accept; timing ..");
+    println!("library, plain Rust and reference agree on every input, and LPeg accepts what they accept; timing ..");
     let mut groups: [Vec<Measured>; 3] = [by_size, by_names, on_nothing];
     time_in_turn(groups.iter_mut().flatten().collect(), &mut lua);
 
@@ -43,7 +43,7 @@ fn main() {
     write_result("symbols.svg", &symbols(&by_names));
 }
 
-/// An input of a kind, which all three accept, and of which none accepts the damaged form.
+/// An input of a kind, which all accept, and of which none accepts the damaged form.
 fn sized(kind: &Kind, bytes: usize, lua: &mut Lua) -> Measured {
     let input = (kind.make)(bytes);
     let damaged = (kind.damage)(&input);
@@ -78,7 +78,7 @@ fn load_average() -> String {
 
 // ------------------------------------------------------------------------------------------------------------------- one case
 
-/// A grammar of samples/ with one input, and what the library and the second implementation both answer.
+/// A grammar of samples/ with one input, and what all but LPeg answer.
 struct Case {
     grammar: &'static str,
     image: Vec<u8>,
@@ -90,16 +90,17 @@ struct Case {
 }
 
 impl Case {
-    /// Writes the input for LPeg to read, and asserts that the library and the second implementation answer alike, slots included.
+    /// Writes the input for LPeg to read, and asserts that the library, plain Rust and the reference answer alike, slots included.
     fn new(grammar: &'static str, name: &str, input: Vec<u8>) -> Case {
         let image = fs::read(format!("samples/{grammar}/rules")).expect("the sample's image");
         let file = format!("{INPUTS}/{name}");
         fs::write(&file, &input).expect("the input is written");
-        let mut slots = [slot_buffer(), slot_buffer()];
+        let mut slots = [slot_buffer(), slot_buffer(), slot_buffer()];
         let answer = recognise_numbers(&image, &input, Limits::AMPLE, &mut slots[0]);
-        let (second, trace) = reference::recognise(&image, &input, Limits::AMPLE, &mut slots[1], None);
-        assert_eq!(answer, second, "{name}: the answers differ");
-        assert_eq!(slots[0], slots[1], "{name}: the slots differ");
+        let by_plain = plain::recognise(&image, &input, Limits::AMPLE, &mut slots[1]);
+        let (by_reference, trace) = reference::recognise(&image, &input, Limits::AMPLE, &mut slots[2], None);
+        assert_eq!([by_plain, by_reference], [answer; 2], "{name}: the answers differ");
+        assert!(slots.iter().all(|each| *each == slots[0]), "{name}: the slots differ");
         Case { grammar, image, input, name: name.to_string(), file, answer, most_held: trace.room }
     }
 
@@ -119,6 +120,7 @@ impl Case {
         let (image, input) = (&self.image, &self.input);
         match implementation {
             Library => time_batch(count, || assert_eq!(recognise_numbers(image, input, Limits::AMPLE, slots), self.answer)),
+            Plain => time_batch(count, || assert_eq!(plain::recognise(image, input, Limits::AMPLE, slots), self.answer)),
             Reference => time_batch(count, || assert_eq!(reference::recognise(image, input, Limits::AMPLE, slots, None).0, self.answer)),
             Lpeg => lua.time(self.grammar, &self.file, count, self.answer.kind == Numbers::FAILED),
         }
@@ -154,18 +156,19 @@ fn time_batch(count: usize, mut call: impl FnMut()) -> f64 {
 #[derive(Clone, Copy)]
 enum Implementation {
     Library,
+    Plain,
     Reference,
     Lpeg,
 }
 
-use Implementation::{Library, Lpeg, Reference};
+use Implementation::{Library, Lpeg, Plain, Reference};
 
-const IMPLEMENTATIONS: [Implementation; 3] = [Library, Reference, Lpeg];
+const IMPLEMENTATIONS: [Implementation; 4] = [Library, Plain, Reference, Lpeg];
 
 /// A case with its times: for each implementation the nanoseconds a call, one number for each batch.
 struct Measured {
     case: Case,
-    times: [Vec<f64>; 3],
+    times: [Vec<f64>; IMPLEMENTATIONS.len()],
 }
 
 impl Measured {
@@ -196,7 +199,7 @@ impl Measured {
 fn time_in_turn(mut cases: Vec<&mut Measured>, lua: &mut Lua) {
     let mut slots = slot_buffer();
     let mut calls = |case: &Case| IMPLEMENTATIONS.map(|one| calls_in_batch(|count| case.batch(one, count, &mut slots, lua)));
-    let calls: Vec<[usize; 3]> = cases.iter().map(|row| calls(&row.case)).collect();
+    let calls: Vec<[usize; IMPLEMENTATIONS.len()]> = cases.iter().map(|row| calls(&row.case)).collect();
     for _ in 0..ROUNDS {
         for (row, calls) in cases.iter_mut().zip(&calls) {
             for (one, &count) in IMPLEMENTATIONS.iter().zip(calls) {
@@ -274,7 +277,7 @@ fn page(by_size: &[Measured], by_names: &[Measured], on_nothing: &[Measured], lo
     let mut page = String::from("# How fast it is\n\nWritten by `make bench`.\n\n");
     page.push_str("![Time a byte, by grammar and size of the input](growth.svg)\n\n![Time a step, by names held](symbols.svg)\n\n");
     page.push_str("## By grammar and size\n\n");
-    page.push_str("Medians. *Held* is how many symbols the answer holds, *most* how many were held at a time.\n\n");
+    page.push_str("Medians. *Names* is how many were held at a time, at most.\n\n");
     page.push_str(&table(by_size));
     page.push_str("\n## By names held\n\n");
     page.push_str("The typedef grammar: 250 typedefs, then variables of all types held. The typedefs not held stand in closed scopes. Medians.\n\n");
@@ -288,31 +291,30 @@ fn page(by_size: &[Measured], by_names: &[Measured], on_nothing: &[Measured], lo
     page
 }
 
-const HEADINGS: [&str; 12] = [
+const HEADINGS: [&str; 11] = [
     "grammar",
     "bytes",
     "steps",
-    "held",
-    "most",
+    "names",
     "library, ns a step",
+    "plain Rust, ns a step",
     "reference, ns a step",
+    "library / plain Rust",
     "library, ns a byte",
-    "reference, ns a byte",
     "LPeg, ns a byte",
-    "library / reference",
     "library / LPeg",
 ];
 
 fn table(rows: &[Measured]) -> String {
     let mut text = format!("| {} |\n|---{}|\n", HEADINGS.join(" | "), "|--:".repeat(HEADINGS.len() - 1));
     for row in rows {
-        let counts = [row.case.input.len(), row.case.answer.steps as usize, row.case.answer.symbols as usize, row.case.most_held as usize];
-        let a_step = [Library, Reference].map(|one| row.a_step(one));
-        let a_byte = IMPLEMENTATIONS.map(|one| row.a_byte(one));
-        let ratios = [Reference, Lpeg].map(|other| row.median(Library) / row.median(other));
+        let counts = [row.case.input.len(), row.case.answer.steps as usize, row.case.most_held as usize];
+        let library_to = |other| row.median(Library) / row.median(other);
+        let [library, plain, reference] = [Library, Plain, Reference].map(|one| row.a_step(one));
+        let values = [library, plain, reference, library_to(Plain), row.a_byte(Library), row.a_byte(Lpeg), library_to(Lpeg)];
         let mut cells = vec![row.case.grammar.to_string()];
         cells.extend(counts.iter().map(|&count| grouped(count)));
-        cells.extend(a_step.iter().chain(&a_byte).chain(&ratios).map(|&value| figure(value)));
+        cells.extend(values.iter().map(|&value| figure(value)));
         writeln!(text, "| {} |", cells.join(" | ")).expect("text grows");
     }
     text
@@ -345,8 +347,8 @@ fn figure(value: f64) -> String {
 /// How long a call takes: the best and the median batch of each implementation.
 fn calls<'a>(rows: impl IntoIterator<Item = &'a Measured>) -> String {
     let mut text = String::from(
-        "| input | library: best | median | reference: best | median | LPeg: best | median |\n\
-         |---|--:|--:|--:|--:|--:|--:|\n",
+        "| input | library: best | median | plain Rust: best | median | reference: best | median | LPeg: best | median |\n\
+         |---|--:|--:|--:|--:|--:|--:|--:|--:|\n",
     );
     for row in rows {
         let cells: Vec<String> = IMPLEMENTATIONS.iter().flat_map(|&one| [row.best(one), row.median(one)]).map(|time| figure(time / 1e3)).collect();
@@ -364,13 +366,15 @@ fn conditions(load: &str, lua_version: &str) -> String {
 - **Library**: `yarnspire_recognise` of the proved library, called through the Rust package in `harness/`. Each call checks the image anew and
   runs under the greatest limits (B 1,000,000, D 256, R 256). The slot buffer of {slots} numbers is lent again and again, and the bench does not
   clear it between calls; the library itself puts zeros into the first 3R numbers in each call, and that is part of its time.
-- **Reference**: the second implementation of 01 in Rust (`harness/src/reference`), compiled for release. It too reads the image in each call.
+- **Plain Rust**: 01 in safe Rust without a proof, written for speed (`harness/src/plain`). It decodes the image in each call, into nodes of eight
+  bytes, and walks them with one store for the symbols of all tables. It has no memo tables, no classes of characters and nothing kept between calls.
+- **Reference**: the readable implementation of 01 in Rust (`harness/src/reference`). It too reads the image in each call. Both are compiled for release.
 - **LPeg**: the grammars in `harness/bench/`, built once, before the time is taken. What is timed is `lpeg.match` in a loop in Lua.
-- Each input was given to all three first. The library and the reference gave equal answers and equal slots. The answer was accepted with all
-  bytes consumed, and LPeg consumed all bytes; the empty input is accepted by none. Each input of the first table has a damaged form, which none of
-  the three accepts. The answer of every timed call was compared too.
+- Each input was given to all four first. The library, plain Rust and the reference gave equal answers and equal slots. The answer was accepted with
+  all bytes consumed, and LPeg consumed all bytes; the empty input is accepted by none. Each input of the first table has a damaged form, which none of
+  the four accepts. The answer of every timed call was compared too.
 - Time is processor time of the process (the C library's `clock`, which Lua's `os.clock` reads as well). A batch is as many calls as take
-  about {batch} ms. Library, reference and LPeg ran a batch each on one input after the other, and so {rounds} times over. A figure is a batch's time over
+  about {batch} ms. Library, plain Rust, reference and LPeg ran a batch each on one input after the other, and so {rounds} times over. A figure is a batch's time over
   its calls, and tables and plots show the median batch unless they say best.
 - Inputs come from `harness/src/inputs.rs`, the same bytes in every run, and small enough to stay in the processor's caches.
 
@@ -385,9 +389,13 @@ fn conditions(load: &str, lua_version: &str) -> String {
 
 ## What the figures do not say
 
+- Plain Rust is one programmer's work. Several designs were tried on these inputs and the fastest was kept, so it is fitted to them a little. What
+  helped most is that a single byte is looked at without a call; that the second part of a sequence or a choice runs in the call of the first helped
+  less. Steps and depth are counted as 01 says all the same. 01 asks of the library that its evaluator calls itself on child nodes.
+- The ratio of library and plain Rust is one of two programs and two compilers: rustc made one, and Rattle with the kit's clang the other.
 - The reference is the readable implementation, not a fast one: it hands the lists of all tables round by value, copies them in nearly every
-  step, and carries the switches by which the tests make wrong machines of it. So its time a step grows with the names held. It shows what the
-  plain way costs, and no more.
+  step, and carries the switches by which the tests make wrong machines of it. So its time a step grows with the names held. It shows what those
+  copies cost, and no more.
 - LPeg compiles a grammar for a machine of its own, with sets of characters and runs of a set as single instructions. An image of edition 1 has
   neither: a class like `[a-z0-9_]` is a choice of ranges, and each byte of a name is a round of a Star, an entry of its body, and an entry of each
   alternative tried.
@@ -415,9 +423,10 @@ fn conditions(load: &str, lua_version: &str) -> String {
 
 fn style(implementation: Implementation) -> Style {
     match implementation {
-        Library => Style { name: "library (proved)", colour: "#0b62a8", mark: Mark::Circle, value_below: false },
-        Reference => Style { name: "reference (Rust)", colour: "#c8501a", mark: Mark::Square, value_below: false },
-        Lpeg => Style { name: "LPeg", colour: "#2b8a57", mark: Mark::Triangle, value_below: true },
+        Library => Style { name: "library (proved)", colour: "#0b62a8", mark: Mark::Circle },
+        Plain => Style { name: "plain Rust", colour: "#8a3aa8", mark: Mark::Diamond },
+        Reference => Style { name: "reference (Rust)", colour: "#c8501a", mark: Mark::Square },
+        Lpeg => Style { name: "LPeg", colour: "#2b8a57", mark: Mark::Triangle },
     }
 }
 
@@ -433,23 +442,27 @@ fn growth(rows: &[Measured]) -> String {
         let lines = IMPLEMENTATIONS.map(|one| Line { style: style(one), points: points(one) });
         let frame = Frame { left: 70.0 + 312.0 * (i % 3) as f64, top: 96.0 + 292.0 * (i / 3) as f64, width: 230.0, height: 200.0 };
         picture.panel(kind.name, frame, &x, &y, &lines);
+        picture.last_values(frame, &x, &y, &lines);
     }
-    picture.legend((724.0, 430.0), &[Reference, Library, Lpeg].map(style));
+    picture.legend((724.0, 430.0), &[Reference, Library, Plain, Lpeg].map(style));
     picture.end()
 }
 
-/// Nanoseconds a step over the number of names held: the library and the reference, each on a scale of its own.
+/// Nanoseconds a step over the number of names held: the library and plain Rust on one scale, the reference on another.
 fn symbols(rows: &[Measured]) -> String {
     let x = Axis::linear("names held", &[250.0]);
     let under = format!("the typedef grammar on {} bytes; medians; each panel has its own scale, from 0", grouped(BYTES_WITH_NAMES_HELD));
-    let mut picture = Picture::new(810.0, 380.0, "Time a step, by names held", &under);
-    for (i, one) in [Library, Reference].into_iter().enumerate() {
-        let points: Vec<(f64, f64)> = rows.iter().map(|row| (row.case.answer.symbols as f64, row.a_step(one))).collect();
-        let y = Axis::linear("ns a step", &points.iter().map(|point| point.1).collect::<Vec<_>>());
-        let line = Line { style: style(one), points };
+    let mut picture = Picture::new(990.0, 380.0, "Time a step, by names held", &under);
+    let points = |one| rows.iter().map(|row| (row.case.answer.symbols as f64, row.a_step(one))).collect();
+    for (i, shown) in [&[Library, Plain][..], &[Reference]].into_iter().enumerate() {
+        let lines: Vec<Line> = shown.iter().map(|&one| Line { style: style(one), points: points(one) }).collect();
+        let y = Axis::linear("ns a step", &lines.iter().flat_map(|line| &line.points).map(|point| point.1).collect::<Vec<_>>());
         let frame = Frame { left: 70.0 + 400.0 * i as f64, top: 96.0, width: 310.0, height: 220.0 };
-        picture.panel(line.style.name, frame, &x, &y, &[line]);
+        let names: Vec<&str> = lines.iter().map(|line| line.style.name).collect();
+        picture.panel(&names.join(", "), frame, &x, &y, &lines);
+        picture.all_values(frame, &x, &y, &lines);
     }
+    picture.legend((806.0, 120.0), &[Reference, Library, Plain].map(style));
     picture.end()
 }
 
@@ -458,12 +471,12 @@ struct Style {
     name: &'static str,
     colour: &'static str,
     mark: Mark,
-    value_below: bool,
 }
 
 #[derive(Clone, Copy)]
 enum Mark {
     Circle,
+    Diamond,
     Square,
     Triangle,
 }
@@ -471,6 +484,13 @@ enum Mark {
 struct Line {
     style: Style,
     points: Vec<(f64, f64)>,
+}
+
+impl Line {
+    /// Where the points lie in a panel.
+    fn places(&self, frame: Frame, x: &Axis, y: &Axis) -> Vec<(f64, f64)> {
+        self.points.iter().map(|&(a, b)| (frame.across(x.share(a)), frame.up(y.share(b)))).collect()
+    }
 }
 
 struct Axis {
@@ -562,12 +582,29 @@ impl Picture {
         self.upward_axis(frame, y);
         self.rightward_axis(frame, x);
         for line in lines {
-            let places: Vec<(f64, f64)> = line.points.iter().map(|&(a, b)| (frame.across(x.share(a)), frame.up(y.share(b)))).collect();
-            self.line(line.style, &places);
-            let unwritten = if lines.len() == 1 { 0 } else { places.len() - 1 };
-            for (&place, &(_, value)) in places.iter().zip(&line.points).skip(unwritten) {
-                self.value(line.style, place, value);
+            self.line(line.style, &line.places(frame, x, y));
+        }
+    }
+
+    /// Writes every value above its mark.
+    fn all_values(&mut self, frame: Frame, x: &Axis, y: &Axis, lines: &[Line]) {
+        for line in lines {
+            for ((left, top), &(_, value)) in line.places(frame, x, y).into_iter().zip(&line.points) {
+                self.value(line.style, (left, top - 10.0), "middle", value);
             }
+        }
+    }
+
+    /// Writes the last value of each line to the right of its mark, from the lowest up, each clear of the one below.
+    fn last_values(&mut self, frame: Frame, x: &Axis, y: &Axis, lines: &[Line]) {
+        let last = |line: &Line| Some((line.style, *line.places(frame, x, y).last()?, line.points.last()?.1));
+        let mut values: Vec<(Style, (f64, f64), f64)> = lines.iter().filter_map(last).collect();
+        values.sort_by(|(_, (_, a), _), (_, (_, b), _)| b.total_cmp(a));
+        let mut clear = f64::INFINITY;
+        for (style, (left, top), value) in values {
+            let top = clear.min(top + 4.0);
+            self.value(style, (left + 9.0, top), "start", value);
+            clear = top - 12.0;
         }
     }
 
@@ -596,10 +633,9 @@ impl Picture {
         self.put(format_args!("<text x=\"{x}\" y=\"{y}\" text-anchor=\"middle\" fill=\"#555\">{}</text>", axis.label));
     }
 
-    /// Writes a value beside its mark. A panel with one line has all values, else each line its last.
-    fn value(&mut self, style: Style, (x, y): (f64, f64), value: f64) {
-        let (y, colour, text) = (y + if style.value_below { 19.0 } else { -10.0 }, style.colour, figure(value));
-        self.put(format_args!("<text x=\"{x:.1}\" y=\"{y:.1}\" text-anchor=\"middle\" font-size=\"12\" fill=\"{colour}\">{text}</text>"));
+    fn value(&mut self, style: Style, (x, y): (f64, f64), anchor: &str, value: f64) {
+        let (colour, text) = (style.colour, figure(value));
+        self.put(format_args!("<text x=\"{x:.1}\" y=\"{y:.1}\" text-anchor=\"{anchor}\" font-size=\"12\" fill=\"{colour}\">{text}</text>"));
     }
 
     fn line(&mut self, style: Style, places: &[(f64, f64)]) {
@@ -614,6 +650,7 @@ impl Picture {
         let colour = style.colour;
         match style.mark {
             Mark::Circle => self.put(format_args!("<circle cx=\"{x:.1}\" cy=\"{y:.1}\" r=\"4.5\" fill=\"{colour}\"/>")),
+            Mark::Diamond => self.put(format_args!("<path d=\"M{x:.1} {:.1} l5.5 5.5 l-5.5 5.5 l-5.5 -5.5 z\" fill=\"{colour}\"/>", y - 5.5)),
             Mark::Square => self.put(format_args!("<rect x=\"{:.1}\" y=\"{:.1}\" width=\"8\" height=\"8\" fill=\"{colour}\"/>", x - 4.0, y - 4.0)),
             Mark::Triangle => self.put(format_args!("<path d=\"M{x:.1} {:.1} l5 9 h-10 z\" fill=\"{colour}\"/>", y - 5.5)),
         }

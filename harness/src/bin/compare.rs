@@ -1,8 +1,8 @@
-//! Holds the proved library against the reference on 01's own cases and on random ones.
+//! Holds the proved library, and the plain implementation, against the reference on 01's own cases and on random ones.
 //!
-//! `compare [SEED [COUNT]]` runs so many random cases: both answers, check's answer and every slot must be equal, and there must be enough cases of every
+//! `compare [SEED [COUNT]]` runs so many random cases: all answers, check's answers and every slot must be equal, and there must be enough cases of every
 //! sort. Wrong machines run some of the cases too, and each must be told apart. `compare --case IMAGE INPUT B D R SLOTS` runs one case and prints what
-//! both make of it.
+//! all three make of it.
 
 use std::process::exit;
 
@@ -39,7 +39,7 @@ fn number(word: &str) -> Result<u64, String> {
 }
 
 fn compare(seed: u64, count: u64) -> Result<(), String> {
-    println!("library and reference answer 01's {} Harbour cases as 01 says", harbour::run()?);
+    println!("library, plain Rust and reference answer 01's {} Harbour cases as 01 says", harbour::run()?);
     println!("seed {seed}, {count} cases");
     let mut maker = Maker::new(seed);
     let mut tally = Tally::default();
@@ -47,17 +47,19 @@ fn compare(seed: u64, count: u64) -> Result<(), String> {
     for i in 1..=count {
         let case = maker.case();
         let (expected, trace) = case.by_reference(None);
-        let got = case.by_library();
-        if got != expected {
-            show(&expected, &got);
-            return Err(format!("case {i} differs; to run it again: compare --case {}", case.words()));
+        for (who, got) in held_to_reference(&case) {
+            if got != expected {
+                show("reference", &expected);
+                show(who, &got);
+                return Err(format!("case {i} differs; to run it again: compare --case {}", case.words()));
+            }
         }
         tally.count(&expected.answer, &trace);
         if i <= WRONG_COUNT {
             wrong.iter_mut().for_each(|machine| machine.run(i, &case, &expected));
         }
     }
-    println!("library and reference agree in all: check, the six numbers, every slot");
+    println!("library, plain Rust and reference agree in all: check, the six numbers, every slot");
     print!("{tally}");
     println!("wrong machines, and in how many of the first {WRONG_COUNT} cases each is told apart:");
     wrong.iter().for_each(Wrong::print);
@@ -72,6 +74,11 @@ fn compare(seed: u64, count: u64) -> Result<(), String> {
         return Ok(());
     }
     Err(faults.join("\n"))
+}
+
+/// What is held to the reference's answer: the library and the plain implementation.
+fn held_to_reference(case: &Case) -> [(&'static str, Seen); 2] {
+    [("library", case.by_library()), ("plain Rust", case.by_plain())]
 }
 
 /// A wrong machine, with the number of cases that tell it from the reference, and the first of them.
@@ -106,21 +113,20 @@ impl Wrong {
 fn rerun(words: &[String]) -> Result<(), String> {
     let case = Case::read(words)?;
     let (expected, _) = case.by_reference(None);
-    let got = case.by_library();
-    show(&expected, &got);
-    if got != expected {
+    let others = held_to_reference(&case);
+    show("reference", &expected);
+    others.iter().for_each(|(who, got)| show(who, got));
+    if others.iter().any(|(_, got)| *got != expected) {
         return Err("they differ".into());
     }
     println!("they agree");
     Ok(())
 }
 
-fn show(expected: &Seen, got: &Seen) {
-    for (who, seen) in [("reference", expected), ("library", got)] {
-        let (number, place) = seen.verdict;
-        println!("{who}:");
-        println!("  check: number {number}, place {place}");
-        println!("  {}", seen.answer);
-        println!("  slots and what lies behind them: {:x?}", seen.memory);
-    }
+fn show(who: &str, seen: &Seen) {
+    let (number, place) = seen.verdict;
+    println!("{who}:");
+    println!("  check: number {number}, place {place}");
+    println!("  {}", seen.answer);
+    println!("  slots and what lies behind them: {:x?}", seen.memory);
 }
