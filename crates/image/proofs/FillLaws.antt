@@ -5,14 +5,14 @@ use mathlib.Core.List.{List}
 use native.Mathlib.Omega.{arith}
 use lib.ListN.{set}
 use denote.Enum.Declared.{tagOf}
-use Rattle.image.proofs.number.Read.{the-type}
-use Rattle.image.specs.declared.number.Number.{Number}
-use Rattle.image.specs.declared.number.Read.{Read}
-use Rattle.image.specs.declared.number.Read.the-variants.{Got, Refused}
-use Rattle.image.specs.Reading.{Reading}
+use Rattle.reader.proofs.number.Read.{the-type}
+use Rattle.reader.specs.declared.number.Number.{Number}
+use Rattle.reader.specs.declared.number.Read.{Read}
+use Rattle.reader.specs.declared.number.Read.the-variants.{Got, Refused}
+use Rattle.format.specs.Reading.{Reading}
 use Rattle.image.specs.Filled.{Fills}
 use Rattle.image.specs.FilledLaws.{Filling, filling-more, filling-stops, filling-ends}
-use Rattle.image.specs.Meant.{reading}
+use Rattle.reader.specs.Meant.{reading}
 
 module _ (p : ℕ → ℕ → Reading ℕ) (to N : ℕ) {start : ℕ} {before now : List ℕ} {i at : ℕ} (f : Filling p to N start before now i at) where
   pub put-down :

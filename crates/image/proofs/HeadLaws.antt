@@ -2,10 +2,10 @@
 use Prim.Native.Nat.{ℕ, _<_}
 use mathlib.Core.Path.{_≡_}
 use mathlib.Core.List.{List}
-use Rattle.image.specs.Reading.{Reading, got, _then_}
-use Rattle.image.specs.ReadingLaws.{All, holds, _▹_, of-got}
-use Rattle.image.specs.Image.{Head, within, below, headAt}
-use Rattle.image.specs.ImageLaws.{number-all}
+use Rattle.format.specs.Reading.{Reading, got, _then_}
+use Rattle.format.specs.ReadingLaws.{All, holds, _▹_, of-got}
+use Rattle.format.specs.Image.{Head, within, below, headAt}
+use Rattle.format.specs.ImageLaws.{number-all}
 
 abbrev pub found : (T C N start at : ℕ) → Reading Head
 found T C N start at = got (record { tables = T; conditions = C; nodes = N; start = start }) at

@@ -1,5 +1,4 @@
 -- Laws that the proofs of several functions cite.
-pub mod Groups
 pub mod ReadLaws
 pub mod ShapeLaws
 pub mod FillLaws

@@ -5,17 +5,17 @@ use mathlib.Core.List.{List}
 use native.Mathlib.Omega.{arith}
 use borrow.Author.Tests.{lt-ltb, le-ltb, le-leb, lt-leb}
 use denote.Enum.Declared.{tagOf}
-use Rattle.image.proofs.number.Read.{the-type}
-use Rattle.image.specs.declared.number.Number.{Number}
-use Rattle.image.specs.declared.number.Refusal.{Refusal}
-use Rattle.image.specs.declared.number.Read.{Read}
-use Rattle.image.specs.declared.number.Read.the-variants.{Got, Refused}
-use Rattle.image.specs.Reading.{Reading, got, fault, pick, _then_}
-use Rattle.image.specs.ReadingLaws.{onward}
-use Rattle.image.specs.Number.{numberAt}
-use Rattle.image.specs.Image.{inside, bounded}
-use Rattle.image.specs.ImageLaws.{number-below}
-use Rattle.image.specs.Meant.{reading}
+use Rattle.reader.proofs.number.Read.{the-type}
+use Rattle.reader.specs.declared.number.Number.{Number}
+use Rattle.reader.specs.declared.number.Refusal.{Refusal}
+use Rattle.reader.specs.declared.number.Read.{Read}
+use Rattle.reader.specs.declared.number.Read.the-variants.{Got, Refused}
+use Rattle.format.specs.Reading.{Reading, got, fault, pick, _then_}
+use Rattle.format.specs.ReadingLaws.{onward}
+use Rattle.format.specs.Number.{numberAt}
+use Rattle.format.specs.Image.{inside, bounded}
+use Rattle.format.specs.ImageLaws.{number-below}
+use Rattle.reader.specs.Meant.{reading}
 
 -- What was refused is refused, whatever would follow.
 pub stays : (r : Read) → tagOf the-type r ≡ 1 → (k : ℕ → ℕ → Reading ℕ) {x : Reading ℕ} → reading r ≡ x → reading r ≡ (x then k)

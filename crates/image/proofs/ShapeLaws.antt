@@ -11,17 +11,17 @@ use lib.ListN.{take, drop, length, getD, length-drop}
 use lib.Seq.{length-take-le}
 use borrow.Author.Tests.{le-leb, lt-leb, leb-true}
 use Rattle.grammar.specs.Expr.{Expr, Empty, Byte, Range, Any, Text, Sequence, Choice, Star, Not, Call, Def, Match, Is, Isa, Exists, Block, Local, If, On}
-use Rattle.image.specs.declared.number.Number.{Number}
-use Rattle.image.specs.declared.number.Read.{Read}
-use Rattle.image.specs.declared.number.Read.the-variants.{Got}
-use Rattle.image.specs.Reading.{Reading, got, fault, pick, _then_}
-use Rattle.image.specs.ReadingLaws.{All, holds, stops, _▹_, of-got, then-assoc, then-ext}
-use Rattle.image.specs.Written.{bit}
-use Rattle.image.specs.Image.{bounded, raw, kinds, nodeAt}
-use Rattle.image.specs.ImageLaws.{number-all, bit-back}
+use Rattle.reader.specs.declared.number.Number.{Number}
+use Rattle.reader.specs.declared.number.Read.{Read}
+use Rattle.reader.specs.declared.number.Read.the-variants.{Got}
+use Rattle.format.specs.Reading.{Reading, got, fault, pick, _then_}
+use Rattle.format.specs.ReadingLaws.{All, holds, stops, _▹_, of-got, then-assoc, then-ext}
+use Rattle.format.specs.Written.{bit}
+use Rattle.format.specs.Image.{bounded, raw, kinds, nodeAt}
+use Rattle.format.specs.ImageLaws.{number-all, bit-back}
 use Rattle.image.specs.Word.{packed, switch, kept, keep, wordAt}
 use Rattle.image.specs.Shapes.{word1, word2, switched, lastAt, highAt, bytesAt, truthOf, oneAt, twoAt, rangeAt, textAt, switchAt, ifAt, onAt}
-use Rattle.image.specs.Meant.{reading}
+use Rattle.reader.specs.Meant.{reading}
 
 module _ (image : List ℕ) where
   pub bytes-cut : (k at : ℕ) → length image < at + k → fault 2 (length image) ≡ bytesAt image k at

@@ -6,12 +6,12 @@ use native.Mathlib.Omega.{arith}
 use denote.Enum.Declared.{tagOf}
 use Rattle.grammar.specs.Sound.{Bytes}
 use Rattle.image.proofs.walk.Loaded.{the-type}
-use Rattle.image.specs.declared.number.Refusal.{Refusal}
+use Rattle.reader.specs.declared.number.Refusal.{Refusal}
 use Rattle.image.specs.declared.walk.Loaded.{Loaded}
 use Rattle.image.specs.declared.walk.Loaded.the-variants.{Good, Refused}
 use Rattle.image.specs.declared.walk.Verdict.{Verdict}
-use Rattle.image.specs.Image.{Checked, good, refused, readImage}
-use Rattle.image.specs.RoundTrip.{refusal}
+use Rattle.format.specs.Image.{Checked, good, refused, readImage}
+use Rattle.format.specs.RoundTrip.{refusal}
 use Rattle.image.specs.Meant.{answered, verdict}
 
 abbrev zeros : Verdict

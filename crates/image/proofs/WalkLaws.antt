@@ -11,9 +11,9 @@ use Rattle.grammar.specs.Grammar.{Grammar}
 use Rattle.grammar.specs.Sound.{Bytes}
 use Rattle.image.specs.declared.walk.Loaded.{Loaded}
 use Rattle.image.specs.declared.walk.Loaded.the-variants.{Good, Refused}
-use Rattle.image.specs.Reading.{Reading, got, fault, pick, _then_}
-use Rattle.image.specs.ReadingLaws.{onward, then-assoc, of-got}
-use Rattle.image.specs.Image.{times, Head, bounded, nodeAt, headAt, patternsAt, nodesAt, bodyAt, Checked, good, refused, ended, readImage}
+use Rattle.format.specs.Reading.{Reading, got, fault, pick, _then_}
+use Rattle.format.specs.ReadingLaws.{onward, then-assoc, of-got}
+use Rattle.format.specs.Image.{times, Head, bounded, nodeAt, headAt, patternsAt, nodesAt, bodyAt, Checked, good, refused, ended, readImage}
 use Rattle.image.specs.Word.{keep, wordAt}
 use Rattle.image.specs.Filled.{unless, counted, filling, filled, withPatterns, withNodes, Loads}
 use Rattle.image.specs.LoadLaws.{Through, through, through-fault, times-count, made, afterPatterns, nodes-kept, texts-kept, patterns-kept}

@@ -6,13 +6,14 @@ use mathlib.Core.List.{List}
 use lib.Dec.{ltb}
 use lib.ListN.{length, getD, set}
 use Rattle.grammar.specs.Grammar.{Grammar, tables, size, node, pattern}
-use Rattle.image.specs.declared.number.Read.{Read}
+use Rattle.reader.specs.declared.number.Read.{Read}
 use Rattle.image.specs.declared.walk.Loaded.{Loaded}
-use Rattle.image.specs.Reading.{Reading, got, fault, pick, _then_}
-use Rattle.image.specs.Image.{times, Head, bounded, headAt, patternsAt, good, readImage}
+use Rattle.format.specs.Reading.{Reading, got, fault, pick, _then_}
+use Rattle.format.specs.Image.{times, Head, bounded, headAt, patternsAt, good, readImage}
 use Rattle.image.specs.Word.{wordAt}
 use Rattle.image.specs.Node.{nodeOf, exprOf, InImage}
-use Rattle.image.specs.Meant.{reading, answered}
+use Rattle.reader.specs.Meant.{reading}
+use Rattle.image.specs.Meant.{answered}
 
 -- What was read goes on to more; a fault leaves what there is.
 abbrev pub unless : {A : Type 0} → Reading A → List ℕ → (A → ℕ → List ℕ) → List ℕ

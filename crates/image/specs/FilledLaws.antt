@@ -6,9 +6,9 @@ use native.Mathlib.Omega.{arith}
 use native.Mathlib.Numerals.{add-one}
 use lib.ListN.{length, getD, set, length-set}
 use lib.Seq.{getD-set-same, getD-set-other}
-use Rattle.image.specs.Reading.{Reading, got, fault, pick, _then_}
-use Rattle.image.specs.ReadingLaws.{onward, then-assoc}
-use Rattle.image.specs.Image.{times}
+use Rattle.format.specs.Reading.{Reading, got, fault, pick, _then_}
+use Rattle.format.specs.ReadingLaws.{onward, then-assoc}
+use Rattle.format.specs.Image.{times}
 use Rattle.image.specs.Filled.{unless, filling, counted}
 
 -- ## A loop that puts readings down

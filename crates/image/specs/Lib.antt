@@ -1,15 +1,4 @@
--- The image of a grammar: what a reader must believe, and beside it the laws that show it fits together.
-pub mod Reading
-pub mod ReadingLaws
-pub mod Number
-pub mod NumberLaws
-pub mod Written
-pub mod Image
-pub mod ImageLaws
-pub mod OnlyWritten
-pub mod ReadBack
-pub mod RoundTrip
-pub mod Cases
+-- What the code of this crate gives, in terms of the format: a node as it is kept, the array that a walk fills, and the laws between them.
 pub mod Word
 pub mod Shapes
 pub mod Node

@@ -11,13 +11,13 @@ use borrow.Author.Tests.{ltb-false, le-ltb}
 use Rattle.grammar.specs.Expr.{Expr, Empty, Text}
 use Rattle.grammar.specs.Grammar.{Grammar, tables, size, node, pattern}
 use Rattle.grammar.specs.Sound.{Bytes, Fits}
-use Rattle.image.specs.Reading.{Reading, got, fault, pick, _then_}
-use Rattle.image.specs.ReadingLaws.{All, holds, stops, _▹_, of-got}
-use Rattle.image.specs.NumberLaws.{Refusal}
-use Rattle.image.specs.Number.{groups}
-use Rattle.image.specs.Written.{written, numbers, encodeNode}
-use Rattle.image.specs.Image.{times, Head, bounded, nodeAt, headAt, patternsAt, nodesAt, bodyAt, Checked, good, refused, ended, readImage}
-use Rattle.image.specs.OnlyWritten.{Front, One, Many, HeadRead, node-all, pattern-all, times-all, head-all}
+use Rattle.format.specs.Reading.{Reading, got, fault, pick, _then_}
+use Rattle.format.specs.ReadingLaws.{All, holds, stops, _▹_, of-got}
+use Rattle.format.specs.NumberLaws.{Refusal}
+use Rattle.format.specs.Number.{groups}
+use Rattle.format.specs.Written.{written, numbers, encodeNode}
+use Rattle.format.specs.Image.{times, Head, bounded, nodeAt, headAt, patternsAt, nodesAt, bodyAt, Checked, good, refused, ended, readImage}
+use Rattle.format.specs.OnlyWritten.{Front, One, Many, HeadRead, node-all, pattern-all, times-all, head-all}
 use Rattle.image.specs.Word.{kept, keep, wordAt}
 use Rattle.image.specs.Node.{nodeOf, exprOf, InImage}
 use Rattle.image.specs.NodeLaws.{EndAt, Placed, kept-back, kept-inside}

@@ -1,20 +1,12 @@
--- What the values of the code say, in the terms of the definitions.
-use Prim.Native.Nat.{ℕ}
+-- What the values of the code say, in the terms of the definitions. What a reading says is in `reader`.
 use Rattle.grammar.specs.Grammar.{tables, size}
-use Rattle.image.specs.declared.number.Read.{Read}
-use Rattle.image.specs.declared.number.Read.the-variants.{Got, Refused}
 use Rattle.image.specs.declared.walk.Header.{Header}
 use Rattle.image.specs.declared.walk.Header.the-variants.{Found, Refused as NoHead}
 use Rattle.image.specs.declared.walk.Loaded.{Loaded}
 use Rattle.image.specs.declared.walk.Loaded.the-variants.{Good, Refused as Bad}
 use Rattle.image.specs.declared.walk.Verdict.{Verdict}
-use Rattle.image.specs.Reading.{Reading, got, fault}
-use Rattle.image.specs.Image.{Head, Checked, good, refused}
-
--- A number and the place after it, or a refusal.
-abbrev pub reading : Read → Reading ℕ
-reading (Got n) = got (n .value) (n .next)
-reading (Refused f) = fault (f .number) (f .place)
+use Rattle.format.specs.Reading.{Reading, got, fault}
+use Rattle.format.specs.Image.{Head, Checked, good, refused}
 
 -- The numbers that an image begins with and the place after them, or a refusal.
 abbrev pub header : Header → Reading Head

@@ -11,7 +11,7 @@ use Rattle.grammar.specs.Expr as e
 use Rattle.grammar.specs.Sound.{Fits}
 use Rattle.image.specs.declared.node.Node.{Node}
 use Rattle.image.specs.declared.node.Node.the-variants.{Text, On}
-use Rattle.image.specs.Written.{bit}
+use Rattle.format.specs.Written.{bit}
 use Rattle.image.specs.Word.{packed, switch, kept}
 use Rattle.image.specs.Node.{listed, kindOf, nodeOf, exprOf, InImage}
 

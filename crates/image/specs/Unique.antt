@@ -3,33 +3,22 @@ use Prim.Native.Nat.{ℕ}
 use mathlib.Core.Path.{_≡_, sym, _∙_}
 use mathlib.Core.List.{List}
 use native.Mathlib.Omega.{arith}
-use Rattle.image.specs.declared.number.Read.{Read}
-use Rattle.image.specs.declared.number.Read.the-variants.{Got, Refused}
+use Rattle.reader.specs.declared.number.Read.{Read}
 use Rattle.image.specs.declared.walk.Head as code
 use Rattle.image.specs.declared.walk.Header.{Header}
 use Rattle.image.specs.declared.walk.Header.the-variants.{Found, Refused as NoHead}
 use Rattle.image.specs.declared.walk.Loaded.{Loaded}
 use Rattle.image.specs.declared.walk.Verdict.{Verdict}
-use Rattle.image.specs.Reading.{Reading}
-use Rattle.image.specs.Image.{Head, readImage}
+use Rattle.format.specs.Reading.{Reading}
+use Rattle.format.specs.Image.{Head, readImage}
 use Rattle.image.specs.declared.node.Node.{Node}
 use Rattle.image.specs.Word.{packed}
 use Rattle.image.specs.Node.{nodeOf}
 use Rattle.image.specs.Filled.{Fills, Loads}
-use Rattle.image.specs.Meant.{reading, header, verdict}
+use Rattle.reader.specs.Unique.{one-reading}
+use Rattle.image.specs.Meant.{header, verdict}
 
--- `number_at` and the groups below it, `bounded`, `word_at` and every function that reads operands: each promises `reading r ≡ x`.
-pub one-reading : (r s : Read) {x : Reading ℕ} → reading r ≡ x → reading s ≡ x → r ≡ s
-one-reading r s e f = same r s (e ∙ sym f)
-  where
-    same : (r s : Read) → reading r ≡ reading s → r ≡ s
-    same (Got m) (Got n) e =
-        let value : m .value ≡ n .value = cc in let next : m .next ≡ n .next = cc in λ i. Got (record { value = value i; next = next i })
-    same (Got m) (Refused f) e = let z : _≡_ {A = ℕ} 0 1 = cc in absurd (omega arith)
-    same (Refused f) (Got n) e = let z : _≡_ {A = ℕ} 0 1 = cc in absurd (omega arith)
-    same (Refused f) (Refused g) e =
-        let number : f .number ≡ g .number = cc in let place : f .place ≡ g .place = cc in
-        λ i. Refused (record { number = number i; place = place i })
+-- `bounded`, `word_at` and every function that reads operands promise `reading r ≡ x`: `one-reading` of `reader`.
 
 -- `head_of`: it promises `header r ≡ x`.
 pub one-header : (r s : Header) {x : Reading Head} → header r ≡ x → header s ≡ x → r ≡ s

@@ -4,9 +4,9 @@ use Prim.Native.Nat.{ℕ, _+_, _-_, _*_}
 use mathlib.Core.List.{List}
 use lib.ListN.{length}
 use Rattle.grammar.specs.Expr.{Expr, Empty, Byte, Range, Any, Text, Sequence, Choice, Star, Not, Call, Def, Match, Is, Isa, Exists, Block, Local, If, On}
-use Rattle.image.specs.Reading.{Reading, got, _then_}
-use Rattle.image.specs.Written.{bit}
-use Rattle.image.specs.Image.{nodeAt}
+use Rattle.format.specs.Reading.{Reading, got, _then_}
+use Rattle.format.specs.Written.{bit}
+use Rattle.format.specs.Image.{nodeAt}
 
 -- The tag in the lowest five bits, the first operand in the next fifteen, the second in the twelve above.
 abbrev pub packed : (tag a b : ℕ) → ℕ

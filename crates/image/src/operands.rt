@@ -3,13 +3,13 @@ ghost use mathlib.Core.Path.{_≡_};
 ghost use Prim.Native.Nat.{_<_, _≤_};
 ghost use lib.ListN.{length};
 ghost use Rattle.image.specs.Word.{wordAt};
-ghost use Rattle.image.specs.Meant.{reading};
+ghost use Rattle.reader.specs.Meant.{reading};
 ghost use Rattle.image.specs.Shapes.{oneAt, twoAt, rangeAt, textAt, switchAt, ifAt, onAt};
 use crate::node::word;
-use crate::number::Number;
-use crate::number::Read;
-use crate::number::Refusal;
 use crate::number::bounded;
+use reader::number::Number;
+use reader::number::Read;
+use reader::number::Refusal;
 
 // One operand, below `stop`.
 fn one_operand(image: &[u8], at: usize, tag: u32, stop: u32) -> Read

@@ -2,15 +2,15 @@
 ghost use mathlib.Core.Path.{_≡_};
 ghost use Prim.Native.Nat.{_≤_};
 ghost use lib.ListN.{length};
-ghost use Rattle.image.specs.Image.{bounded, headAt, readImage};
+ghost use Rattle.format.specs.Image.{bounded, headAt, readImage};
 ghost use Rattle.image.specs.Word.{wordAt};
 ghost use Rattle.image.specs.Filled.{Fills, Loads};
 ghost use Rattle.image.specs.Meant.{header, verdict};
-use crate::number::Number;
-use crate::number::Read;
-use crate::number::Refusal;
 use crate::number::bounded;
 use crate::operands::word_at;
+use reader::number::Number;
+use reader::number::Read;
+use reader::number::Refusal;
 
 // The numbers that an image begins with, and the place after them.
 pub struct Head {

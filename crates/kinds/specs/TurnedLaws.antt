@@ -6,7 +6,7 @@ use mathlib.Core.List.{List}
 use native.Mathlib.Omega.{arith}
 use lib.ListN.{length, drop, length-take, length-drop}
 use borrow.Author.Tests.{lt-ltb, le-ltb}
-use Rattle.image.specs.Reading.{pick}
+use Rattle.format.specs.Reading.{pick}
 use Rattle.meaning.specs.State.{Symbol}
 use Rattle.meaning.specs.Outcome.{text}
 use Rattle.meaning.specs.Inside.{Part}

@@ -8,7 +8,7 @@ use native.Mathlib.Numerals.{add-one}
 use lib.Dec.{ltb}
 use lib.ListN.{length, drop, getD}
 use borrow.Author.Tests.{ltb-true}
-use Rattle.image.specs.Reading.{pick}
+use Rattle.format.specs.Reading.{pick}
 use Rattle.meaning.specs.State.{State as Symbols, others}
 use Rattle.meaning.specs.Outcome.{Outcome as Meant, pass, fail, part, among, passIf, swap, restored, closed, compared}
 use Rattle.meaning.specs.Rules.{symbol}

@@ -11,7 +11,7 @@ use Rattle.grammar.specs.Expr as e
 use Rattle.grammar.specs.Grammar.{Grammar, tables, size, node, pattern}
 use Rattle.grammar.specs.Sound.{Fits}
 use Rattle.image.specs.Node.{nodeOf, exprOf}
-use Rattle.image.specs.Reading.{pick}
+use Rattle.format.specs.Reading.{pick}
 use Rattle.image.specs.declared.node.Node.{Node}
 use Rattle.image.specs.declared.node.Node.the-variants.{Empty, Byte, Range, Any, Text, Sequence, Choice, Star, Not, Call, Def, Match, Is, Isa, Exists, Block, Local, If, On}
 use Rattle.meaning.specs.State.{Symbol, State as Symbols, ofTable, visible, hide, switch}
@@ -86,15 +86,16 @@ module _ (t : ℕ) (state : State) (slots : List ℕ) (held : ℕ) {low : ℕ} (
 -- ## An entry
 
 -- A node that was entered: a step and a depth were left, and the tally is charged.
-pub record Entry (code image input slots : List ℕ) (left number at held spent deepest depth : ℕ) : Type 0 where
+pub record Entry (code image input slots : List ℕ) (left number at held spent deepest steps depth : ℕ) : Type 0 where
   pub ready : Ready code image input slots left at held spent deepest
   pub numbered : Numbered image number
   pub more : 1 ≤ left
   pub step : spent < stepLimit code
+  pub counted : steps ≡ spent + 1
   pub deeper : depth ≡ max deepest (depthLimit code - (left - 1))
 
-module _ {code image input slots : List ℕ} {left number at held spent deepest depth : ℕ}
-    (E : Entry code image input slots left number at held spent deepest depth) where
+module _ {code image input slots : List ℕ} {left number at held spent deepest steps depth : ℕ}
+    (E : Entry code image input slots left number at held spent deepest steps depth) where
   abbrev g : Grammar
   g = grammarOf image
 
@@ -111,10 +112,10 @@ module _ {code image input slots : List ℕ} {left number at held spent deepest 
   σ = symbols held slots
 
   -- What stands inside may be run, with one depth less.
-  pub below : Ready code image input slots (left - 1) at held (spent + 1) depth
+  pub below : Ready code image input slots (left - 1) at held steps depth
   below =
       let r = E .ready in
-      moved r refl (r .place) (r .room) (omega (arith, E .step)) (omega (arith, r .deep)) (omega (arith, E .deeper))
+      moved r refl (r .place) (r .room) (omega (arith, E .step, E .counted)) (omega (arith, r .deep)) (omega (arith, E .deeper))
       (omega (arith, E .deeper, r .entered, r .deep, E .more)) (r .parts)
 
   -- What the word of the node says it is.
@@ -160,53 +161,53 @@ module _ {code image input slots : List ℕ} {left number at held spent deepest 
     Said T = T ≡ telling code image input state left spent deepest (node g number) at σ
 
     abbrev inner : State → ℕ → Told
-    inner v n = telling code image input v (left - 1) (spent + 1) depth (node g n) at σ
+    inner v n = telling code image input v (left - 1) steps depth (node g n) at σ
 
     pub says-sequence : {a b : ℕ} → Kind (Sequence a b)
         → Said (andThen (inner state a) (λ q τ s d. telling code image input state (left - 1) s d (node g b) q τ))
     says-sequence {a} {b} h =
-        rw (expr h, E .deeper)
+        rw (expr h, E .counted, E .deeper)
         (sym (tells-sequence g input B D R left spent deepest (E .more) (E .ready .deep) (E .step) (envOf state) a b at σ))
 
     pub says-choice : {a b : ℕ} → Kind (Choice a b)
         → Said (orElse (inner state a) (λ s d. telling code image input state (left - 1) s d (node g b) at σ))
     says-choice {a} {b} h =
-        rw (expr h, E .deeper)
+        rw (expr h, E .counted, E .deeper)
         (sym (tells-choice g input B D R left spent deepest (E .more) (E .ready .deep) (E .step) (envOf state) a b at σ))
 
-    pub says-star : {a : ℕ} → Kind (Star a) → Said (starring code image input state (left - 1) (spent + 1) depth a at σ)
+    pub says-star : {a : ℕ} → Kind (Star a) → Said (starring code image input state (left - 1) steps depth a at σ)
     says-star {a} h =
-        rw (expr h, E .deeper)
+        rw (expr h, E .counted, E .deeper)
         (sym (tells-star g input B D R left spent deepest (E .more) (E .ready .deep) (E .step) (envOf state) a at σ))
 
     pub says-not : {a : ℕ} → Kind (Not a) → Said (become (swap at σ) (inner state a))
     says-not {a} h =
-        rw (expr h, E .deeper) (sym (tells-not g input B D R left spent deepest (E .more) (E .ready .deep) (E .step) (envOf state) a at σ))
+        rw (expr h, E .counted, E .deeper) (sym (tells-not g input B D R left spent deepest (E .more) (E .ready .deep) (E .step) (envOf state) a at σ))
 
     pub says-call : {a : ℕ} → Kind (Call a) → Said (inner state a)
     says-call {a} h =
-        rw (expr h, E .deeper) (sym (tells-call g input B D R left spent deepest (E .more) (E .ready .deep) (E .step) (envOf state) a at σ))
+        rw (expr h, E .counted, E .deeper) (sym (tells-call g input B D R left spent deepest (E .more) (E .ready .deep) (E .step) (envOf state) a at σ))
 
     pub says-block : {t a : ℕ} → Kind (Block t a) → Said (become (closed t σ) (inner state a))
     says-block {t} {a} h =
-        rw (expr h, E .deeper)
+        rw (expr h, E .counted, E .deeper)
         (sym (tells-block g input B D R left spent deepest (E .more) (E .ready .deep) (E .step) (envOf state) t a at σ))
 
     pub says-local : {t a : ℕ} (hidden : State) → Kind (Local t a) → envOf hidden ≡ hiding (envOf state) t held → Said (become (closed t σ) (inner hidden a))
     says-local {t} {a} hidden h i =
         let j : envOf hidden ≡ hide (envOf state) t σ = i ∙ ap (hiding (envOf state) t) (sym (symbols-length held slots)) in
-        rw (expr h, E .deeper, j)
+        rw (expr h, E .counted, E .deeper, j)
         (sym (tells-local g input B D R left spent deepest (E .more) (E .ready .deep) (E .step) (envOf state) t a at σ))
 
     pub says-on : {k : ℕ} {w : Bool} {a : ℕ} (switched : State) → Kind (On k w a) → envOf switched ≡ switch (envOf state) k w → Said (become (restored σ) (inner switched a))
     says-on {k} {w} {a} switched h i =
-        rw (expr h, E .deeper, i)
+        rw (expr h, E .counted, E .deeper, i)
         (sym (tells-on g input B D R left spent deepest (E .more) (E .ready .deep) (E .step) (envOf state) k w a at σ))
 
     pub says-def : {t : ℕ} → Kind (Def t)
         → Said (andThen (inner state (getD code (512 + t) 0)) (λ a τ s d. pick (ltb (length σ) R) (came (pass a (σ ++ (symbol t at a ∷ []))) s d) (stopped 14 at s d)))
     says-def {t} h =
-        rw (expr h, E .deeper, named-by (fits h))
+        rw (expr h, E .counted, E .deeper, named-by (fits h))
         (sym (tells-def g input B D R left spent deepest (E .more) (E .ready .deep) (E .step) (envOf state) t at σ))
 
     -- Is and Isa: the list as it was before the pattern ran.
@@ -216,21 +217,21 @@ module _ {code image input slots : List ℕ} {left number at held spent deepest 
     abbrev Names : ℕ → e.Expr → (Symbols → Symbols) → Type 0
     Names t = Naming g input B D R left spent deepest (E .more) (E .ready .deep) (E .step) (envOf state) t
 
-    none-named : {k : Node} (t : ℕ) {f : Symbols → Symbols} → Kind k → Names t (exprOf image k) f → list t ≡ [] → Said (came fail (spent + 1) depth)
+    none-named : {k : Node} (t : ℕ) {f : Symbols → Symbols} → Kind k → Names t (exprOf image k) f → list t ≡ [] → Said (came fail steps depth)
     none-named t h n l =
-        rw (expr h, E .deeper)
+        rw (expr h, E .counted, E .deeper)
         (sym (tells-none g input B D R left spent deepest (E .more) (E .ready .deep) (E .step) n at σ (ap some l)))
 
     one-named : {k : Node} (t : ℕ) {f : Symbols → Symbols} → Kind k → Names t (exprOf image k) f → some (list t) ≡ true → t < tables g
         → Said (become (compared input at σ (f (list t))) (inner state (getD code (512 + t) 0)))
     one-named t h n l m =
-        rw (expr h, E .deeper, named-by m)
+        rw (expr h, E .counted, E .deeper, named-by m)
         (sym (tells-named g input B D R left spent deepest (E .more) (E .ready .deep) (E .step) n at σ l))
 
-    pub says-is-none : {t : ℕ} → Kind (Is t) → list t ≡ [] → Said (came fail (spent + 1) depth)
+    pub says-is-none : {t : ℕ} → Kind (Is t) → list t ≡ [] → Said (came fail steps depth)
     says-is-none {t} h = none-named t h with-latest
 
-    pub says-isa-none : {t : ℕ} → Kind (Isa t) → list t ≡ [] → Said (came fail (spent + 1) depth)
+    pub says-isa-none : {t : ℕ} → Kind (Isa t) → list t ≡ [] → Said (came fail steps depth)
     says-isa-none {t} h = none-named t h with-some
 
     pub says-is : {t : ℕ} → Kind (Is t) → some (list t) ≡ true
@@ -244,42 +245,42 @@ module _ {code image input slots : List ℕ} {left number at held spent deepest 
     -- The kinds that run nothing.
     module _ (k : Node) (h : Kind k) (o : Meant) where
       leaf : tells g input B D R left spent deepest (envOf state) (exprOf image k) at σ ≡ came o (spent + 1) (max deepest (D - (left - 1)))
-          → Said (came o (spent + 1) depth)
-      leaf q = rw (expr h, E .deeper) (sym q)
+          → Said (came o steps depth)
+      leaf q = rw (expr h, E .counted, E .deeper) (sym q)
 
-    pub says-empty : Kind Empty → Said (came (pass at σ) (spent + 1) depth)
+    pub says-empty : Kind Empty → Said (came (pass at σ) steps depth)
     says-empty h = leaf Empty h (pass at σ) (tells-empty g input B D R left spent deepest (E .more) (E .ready .deep) (E .step) (envOf state) at σ)
 
-    pub says-byte : {b : ℕ} {ok : Bool} → Kind (Byte b) → ok ≡ inRange b b (drop at input) → Said (came (passIf ok (at + 1) σ) (spent + 1) depth)
+    pub says-byte : {b : ℕ} {ok : Bool} → Kind (Byte b) → ok ≡ inRange b b (drop at input) → Said (came (passIf ok (at + 1) σ) steps depth)
     says-byte {b} h q =
         rw (q, byte-test b (drop at input))
         (leaf (Byte b) h (passIf (begins (b ∷ []) (drop at input)) (at + 1) σ)
         (tells-byte g input B D R left spent deepest (E .more) (E .ready .deep) (E .step) (envOf state) at σ b))
 
     pub says-range :
-        {lo hi : ℕ} {ok : Bool} → Kind (Range lo hi) → ok ≡ inRange lo hi (drop at input) → Said (came (passIf ok (at + 1) σ) (spent + 1) depth)
+        {lo hi : ℕ} {ok : Bool} → Kind (Range lo hi) → ok ≡ inRange lo hi (drop at input) → Said (came (passIf ok (at + 1) σ) steps depth)
     says-range {lo} {hi} h q =
         rw q
         (leaf (Range lo hi) h (passIf (inRange lo hi (drop at input)) (at + 1) σ)
         (tells-range g input B D R left spent deepest (E .more) (E .ready .deep) (E .step) (envOf state) at σ lo hi))
 
-    pub says-any : {ok : Bool} → Kind Any → ok ≡ ltb at (length input) → Said (came (passIf ok (at + 1) σ) (spent + 1) depth)
+    pub says-any : {ok : Bool} → Kind Any → ok ≡ ltb at (length input) → Said (came (passIf ok (at + 1) σ) steps depth)
     says-any h q =
         rw (q, left-test at input)
         (leaf Any h (passIf (some (drop at input)) (at + 1) σ)
         (tells-any g input B D R left spent deepest (E .more) (E .ready .deep) (E .step) (envOf state) at σ))
 
     pub says-text : {place count : ℕ} {ok : Bool} → Kind (Text place count) → ok ≡ begins (take count (drop place image)) (drop at input)
-        → Said (came (passIf ok (at + count) σ) (spent + 1) depth)
+        → Said (came (passIf ok (at + count) σ) steps depth)
     says-text {place} {count} h q =
         let bytes = take count (drop place image) in
         let whole : count ≡ length bytes = sym (long-text h) in
-        rw q (subst (λ n. Said (came (passIf (begins bytes (drop at input)) (at + n) σ) (spent + 1) depth)) (sym whole)
+        rw q (subst (λ n. Said (came (passIf (begins bytes (drop at input)) (at + n) σ) steps depth)) (sym whole)
         (leaf (Text place count) h (passIf (begins bytes (drop at input)) (at + length bytes) σ)
         (tells-text g input B D R left spent deepest (E .more) (E .ready .deep) (E .step) (envOf state) at σ bytes)))
 
     -- Match and Exists look at the table's list.
-    pub says-match-none : {t : ℕ} → Kind (Match t) → list t ≡ [] → Said (came fail (spent + 1) depth)
+    pub says-match-none : {t : ℕ} → Kind (Match t) → list t ≡ [] → Said (came fail steps depth)
     unfolding matched
     says-match-none {t} h l =
         leaf (Match t) h fail
@@ -287,21 +288,21 @@ module _ {code image input slots : List ℕ} {left number at held spent deepest 
         ∙ ap (λ l. came (matched input at σ l) (spent + 1) (max deepest (D - (left - 1)))) l)
 
     pub says-match : {t : ℕ} (s : Symbol) (l : Symbols) → Kind (Match t) → list t ≡ s ∷ l
-        → Said (came (passIf (begins (text input s) (drop at input)) (at + length (text input s)) σ) (spent + 1) depth)
+        → Said (came (passIf (begins (text input s) (drop at input)) (at + length (text input s)) σ) steps depth)
     unfolding matched
     says-match {t} s l h q =
         leaf (Match t) h (passIf (begins (text input s) (drop at input)) (at + length (text input s)) σ)
         (tells-match g input B D R left spent deepest (E .more) (E .ready .deep) (E .step) (envOf state) at σ t
         ∙ ap (λ l. came (matched input at σ l) (spent + 1) (max deepest (D - (left - 1)))) q)
 
-    pub says-exists : {t : ℕ} {ok : Bool} → Kind (Exists t) → ok ≡ some (list t) → Said (came (passIf ok at σ) (spent + 1) depth)
+    pub says-exists : {t : ℕ} {ok : Bool} → Kind (Exists t) → ok ≡ some (list t) → Said (came (passIf ok at σ) steps depth)
     says-exists {t} h q =
         rw q
         (leaf (Exists t) h (passIf (some (list t)) at σ)
         (tells-exists g input B D R left spent deepest (E .more) (E .ready .deep) (E .step) (envOf state) at σ t))
 
     pub says-if : {c : ℕ} {w : Bool} {ok : Bool} → Kind (If c w) → ok ≡ agree (getD (envOf state .truths) c true) w
-        → Said (came (passIf ok at σ) (spent + 1) depth)
+        → Said (came (passIf ok at σ) steps depth)
     says-if {c} {w} h q =
         rw q
         (leaf (If c w) h (passIf (agree (getD (envOf state .truths) c true) w) at σ)

@@ -61,16 +61,16 @@ module _ {code image input slots : List ℕ} {left at held spent deepest : ℕ} 
 
 -- ## An entry
 
-module _ {code image input slots : List ℕ} {left number at held spent deepest depth : ℕ}
-    (E : Entry code image input slots left number at held spent deepest depth) where
+module _ {code image input slots : List ℕ} {left number at held spent deepest steps depth : ℕ}
+    (E : Entry code image input slots left number at held spent deepest steps depth) where
   pub place-fits : at ≤ 65535
   place-fits = omega (arith, E .ready .place, E .ready .short)
 
   -- The symbols held and the charged tally fit an outcome.
-  pub tally-fits : (held ≤ 256) × (spent + 1 ≤ 1000000) × (depth ≤ 256)
+  pub tally-fits : (held ≤ 256) × (steps ≤ 1000000) × (depth ≤ 256)
   tally-fits =
       let r = E .ready in let b = below E in
-      (omega (arith, r .room, r .small-room), omega (arith, E .step, r .few-steps), omega (arith, b .entered, r .small-depth))
+      (omega (arith, r .room, r .small-room), omega (arith, E .step, E .counted, r .few-steps), omega (arith, b .entered, r .small-depth))
 
   pub held-lent : (held ≤ 256) × (held * 3 ≤ length slots)
   held-lent = let r = E .ready in (omega (arith, r .room, r .small-room), omega (arith, r .room, r .lent))
@@ -116,7 +116,7 @@ module _ {code image input slots : List ℕ} {left number at held spent deepest 
 
   -- What the expression inside gives is within bounds.
   module _ {after : List ℕ} {r : ℕ} (state : State) (n : ℕ)
-      (done : Done held slots after r (telling code image input state (left - 1) (spent + 1) depth (node (grammarOf image) n) at (symbols held slots))) where
+      (done : Done held slots after r (telling code image input state (left - 1) steps depth (node (grammarOf image) n) at (symbols held slots))) where
     inner-bounds : Bounds (length input) at held (roomLimit code) (openedOf r)
     inner-bounds = bounds-of state (node (grammarOf image) n) (below E) done
 

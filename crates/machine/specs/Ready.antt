@@ -6,7 +6,7 @@ use lib.ListN.{length, getD}
 use Rattle.grammar.specs.Expr.{Expr}
 use Rattle.grammar.specs.Grammar.{Grammar, tables, size, node, pattern}
 use Rattle.grammar.specs.Sound.{Sound}
-use Rattle.image.specs.Image.{Checked, good, refused, readImage}
+use Rattle.format.specs.Image.{Checked, good, refused, readImage}
 use Rattle.image.specs.Node.{nodeOf, exprOf, InImage}
 use Rattle.meaning.specs.State.{Symbol, State as Symbols}
 use Rattle.meaning.specs.Outcome.{pass, fail}

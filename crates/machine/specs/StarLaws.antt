@@ -8,7 +8,7 @@ use lib.ListN.{length}
 use borrow.Author.Tests.{le-ltb, lt-ltb}
 use Rattle.grammar.specs.Expr.{Star}
 use Rattle.grammar.specs.Grammar.{node}
-use Rattle.image.specs.Reading.{pick}
+use Rattle.format.specs.Reading.{pick}
 use Rattle.meaning.specs.State.{State as Symbols}
 use Rattle.meaning.specs.Outcome.{pass}
 use Rattle.parts.specs.declared.outcome.Outcome.{Outcome}

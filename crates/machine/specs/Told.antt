@@ -5,7 +5,7 @@ use mathlib.Core.List.{List}
 use lib.Dec.{ltb}
 use Rattle.grammar.specs.Expr.{Expr, Star}
 use Rattle.grammar.specs.Grammar.{Grammar, node}
-use Rattle.image.specs.Reading.{pick}
+use Rattle.format.specs.Reading.{pick}
 use Rattle.meaning.specs.State.{State, Env}
 use Rattle.meaning.specs.Outcome.{Outcome, pass, fail}
 use Rattle.meaning.specs.Run.{Result, ran, refused, run}

@@ -9,7 +9,7 @@ use lib.Dec.{ltb}
 use lib.ListN.{length, take, drop, getD}
 use Rattle.grammar.specs.Expr.{Expr, Empty, Byte, Range, Any, Text, Sequence, Choice, Star, Not, Call, Def, Match, Is, Isa, Exists, Block, Local, If, On}
 use Rattle.grammar.specs.Grammar.{Grammar, node, pattern}
-use Rattle.image.specs.Reading.{pick}
+use Rattle.format.specs.Reading.{pick}
 use Rattle.meaning.specs.State.{State, Env, visible, hide, switch}
 use Rattle.meaning.specs.Outcome.{Outcome, pass, fail, begins, some, inRange, agree, passIf, swap, restored, closed, matched, compared}
 use Rattle.meaning.specs.Cost.{Cost, nothing, enter}

@@ -1,9 +1,9 @@
 // The evaluator: a node is run by running the nodes inside it, with one less of depth left at each call.
 //
-// A tally of steps and greatest depth goes by value: into each call, and back in its outcome. `held` names the symbols that were there on
-// entering; nothing below them is ever written, so what fails needs no undoing.
+// The tally of steps and greatest depth goes into each call, and comes back in its outcome; `entered` charges it, and nothing else does. `held`
+// names the symbols that were there on entering; nothing below them is ever written, so what fails needs no undoing.
 ghost use mathlib.Core.Path.{_≡_};
-ghost use Prim.Native.Nat.{_+_, _≤_, max};
+ghost use Prim.Native.Nat.{_+_, _≤_};
 ghost use Rattle.grammar.specs.Grammar.{node as Grammar·node};
 ghost use Rattle.parts.specs.Slots.{symbols};
 ghost use Rattle.machine.specs.Told.{andThen, orElse};
@@ -31,16 +31,7 @@ use parts::outcome::opened;
 use parts::outcome::passed;
 use parts::outcome::refused;
 use parts::slots::latest;
-
-// The greater of two numbers.
-fn greater(a: u32, b: u32) -> u32
-    ensures { λ r. ⌜ r ≡ max a b ⌝ }
-{
-    if a < b {
-        return b;
-    }
-    a
-}
+use tally::entered;
 
 // Runs a node. The array holds a word for each node, each table's pattern, and the limits of steps, depth and room.
 pub fn eval(
@@ -67,8 +58,9 @@ pub fn eval(
         return refused(13, at, spent, deepest);
     }
     let below = left - 1;
-    let steps = spent + 1;
-    let depth = greater(deepest, code[521] - below);
+    let tally = entered(spent, deepest, code[521] - below);
+    let steps = tally.steps;
+    let depth = tally.depth;
     let kind = node_of(code[node as usize]);
     match kind {
         Node::Empty => passed(at, held, steps, depth),
@@ -460,9 +452,10 @@ fn star(
         if code[520] <= spent {
             return refused(12, next, spent, deepest);
         }
+        let tally = entered(spent, deepest, 0);
         here = next;
         stored = more;
-        charged = spent + 1;
-        reached = deepest;
+        charged = tally.steps;
+        reached = tally.depth;
     }
 }

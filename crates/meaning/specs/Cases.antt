@@ -5,7 +5,7 @@ use Prim.Native.Nat.{ℕ, _+_, _-_, _*_}
 use mathlib.Core.Path.{_≡_, refl}
 use mathlib.Core.List.{List, [], _∷_, _++_, map}
 use lib.ListN.{length, replicate}
-use Rattle.image.specs.Cases.{harbour}
+use Rattle.format.specs.Cases.{harbour}
 use Rattle.meaning.specs.Recognise.{Answer, Called, recognise}
 
 pub record Case : Type 0 where

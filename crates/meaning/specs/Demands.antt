@@ -10,9 +10,9 @@ use lib.ListN.{length, drop, replicate}
 use borrow.Author.Tests.{le-leb, leb-true, le-ltb, lt-ltb, ltb-true, ltb-false}
 use Rattle.grammar.specs.Grammar.{Grammar, node}
 use Rattle.grammar.specs.Sound.{Bytes}
-use Rattle.image.specs.Reading.{pick}
-use Rattle.image.specs.Image.{Checked, good, refused, readImage}
-use Rattle.image.specs.RoundTrip as i
+use Rattle.format.specs.Reading.{pick}
+use Rattle.format.specs.Image.{Checked, good, refused, readImage}
+use Rattle.format.specs.RoundTrip as i
 use Rattle.meaning.specs.State.{State, outset}
 use Rattle.meaning.specs.Outcome.{Outcome, pass, fail, _and_, passIf, swap, restored, closed, matched, compared}
 use Rattle.meaning.specs.Cost.{Cost}

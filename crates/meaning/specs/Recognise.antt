@@ -6,8 +6,8 @@ use mathlib.Core.List.{List, [], _∷_, _++_}
 use lib.Dec.{leb, ltb}
 use lib.ListN.{length, drop, replicate}
 use Rattle.grammar.specs.Grammar.{Grammar, node}
-use Rattle.image.specs.Reading.{pick}
-use Rattle.image.specs.Image.{Checked, good, refused, readImage}
+use Rattle.format.specs.Reading.{pick}
+use Rattle.format.specs.Image.{Checked, good, refused, readImage}
 use Rattle.meaning.specs.State.{State, outset}
 use Rattle.meaning.specs.Outcome.{pass, fail, _and_, passIf, swap, restored, closed, matched, compared}
 use Rattle.meaning.specs.Run.{Result, ran, refused as stopped, rounds, run}

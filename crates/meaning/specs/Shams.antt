@@ -6,8 +6,8 @@ use mathlib.Core.List.{List, [], _∷_, _++_}
 use native.Mathlib.Omega.{arith}
 use lib.ListN.{length, getD, replicate}
 use Rattle.grammar.specs.Grammar.{Grammar}
-use Rattle.image.specs.Image.{readImage, good}
-use Rattle.image.specs.Cases.{harbour, harbourGrammar, harbour-read}
+use Rattle.format.specs.Image.{readImage, good}
+use Rattle.format.specs.Cases.{harbour, harbourGrammar, harbour-read}
 use Rattle.meaning.specs.State.{State}
 use Rattle.meaning.specs.Outcome.{pass}
 use Rattle.meaning.specs.Cost.{Cost}

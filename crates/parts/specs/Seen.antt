@@ -8,7 +8,7 @@ use lib.Dec.{eqb, ltb}
 use lib.ListN.{length, take, drop, getD, drop-of-length-le}
 use lib.Seq.{drop-append-le}
 use borrow.Author.Tests.{le-ltb, lt-ltb, ltb-true, ltb-false}
-use Rattle.image.specs.Reading.{pick}
+use Rattle.format.specs.Reading.{pick}
 use Rattle.meaning.specs.State.{Symbol, State, Env, ofTable, visible}
 use Rattle.meaning.specs.Scopes.{of-append}
 use Rattle.meaning.specs.Outcome.{same, some, part, text, among}

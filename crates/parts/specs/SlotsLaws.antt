@@ -9,7 +9,7 @@ use lib.Dec.{eqb, ltb}
 use lib.ListN.{length, take, drop, getD, set, replicate, length-set, length-append, length-replicate, take-append-drop, drop-of-length-le}
 use lib.Seq.{drop-cons, set-at, length-take-le, drop-append-le, getD-set-same, getD-set-other, take-append-seam, drop-append-seam, ext-getD}
 use borrow.Author.Tests.{le-ltb, lt-ltb, ltb-true, ltb-false, eq-eqb, ne-eqb}
-use Rattle.image.specs.Reading.{pick}
+use Rattle.format.specs.Reading.{pick}
 use Rattle.meaning.specs.State.{Symbol, State, others}
 use Rattle.meaning.specs.Rules.{symbol}
 use Rattle.parts.specs.Slots.{symbolAt, symbols, putting, latestOf, Below, Closes}

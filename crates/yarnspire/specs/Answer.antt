@@ -2,7 +2,7 @@
 use Prim.Native.Nat.{ℕ, _≤_}
 use mathlib.Core.Path.{_≡_}
 use mathlib.Core.Logic.{_⊎_}
-use Rattle.image.specs.Image as i
+use Rattle.format.specs.Image as i
 use Rattle.meaning.specs.Recognise as m
 use Rattle.yarnspire.specs.declared.answer.Verdict.{Verdict}
 use Rattle.yarnspire.specs.declared.answer.Verdict.the-variants.{Good, Refused as Faulty}

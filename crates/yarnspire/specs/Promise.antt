@@ -5,8 +5,8 @@ use mathlib.Core.List.{List}
 use mathlib.Core.Logic.{_↔_, _⊎_}
 use lib.ListN.{length, take}
 use Rattle.grammar.specs.Grammar.{Grammar}
-use Rattle.image.specs.Image.{readImage}
-use Rattle.image.specs.RoundTrip.{Stands, Refuses}
+use Rattle.format.specs.Image.{readImage}
+use Rattle.format.specs.RoundTrip.{Stands, Refuses}
 use Rattle.meaning.specs.Outcome.{Outcome}
 use Rattle.meaning.specs.Cost.{Cost}
 use Rattle.meaning.specs.Recognise.{Answer, recognise}

@@ -9,13 +9,13 @@ use lib.ListN.{length, take, drop, getD, set, length-set}
 use lib.Seq.{getD-set-other, getD-set-same, length-take-le}
 use Rattle.grammar.specs.Grammar.{Grammar, node}
 use Rattle.grammar.specs.Sound.{Bytes}
-use Rattle.image.specs.Image.{Checked, good, refused, readImage}
-use Rattle.image.specs.RoundTrip as round
+use Rattle.format.specs.Image.{Checked, good, refused, readImage}
+use Rattle.format.specs.RoundTrip as round
 use Rattle.image.specs.Filled.{Loads}
 use Rattle.image.specs.Meant.{answered, verdict}
 use Rattle.image.specs.declared.walk.Verdict.{Verdict as Said}
 use Rattle.image.specs.Node.{nodeOf, exprOf, InImage}
-use Rattle.image.specs.declared.number.Refusal.{Refusal}
+use Rattle.reader.specs.declared.number.Refusal.{Refusal}
 use Rattle.image.specs.declared.walk.Loaded.{Loaded}
 use Rattle.image.specs.declared.walk.Loaded.the-variants.{Good as Whole, Refused as Bad}
 use Rattle.meaning.specs.State.{outset}

@@ -1,7 +1,7 @@
 -- `check` meets its promise. Assumes nothing.
 use native.Mathlib.Omega.{arith}
 use Rattle.grammar.specs.Sound.{Bytes}
-use Rattle.image.specs.Image.{readImage}
+use Rattle.format.specs.Image.{readImage}
 use Rattle.yarnspire.specs.PromiseLaws.{checks, is-good, is-faulty}
 use borrow.Author.Needs.{needs}
 use Rattle.yarnspire.proofs.check.Statement.{statement}

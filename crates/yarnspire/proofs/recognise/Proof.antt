@@ -6,8 +6,8 @@ use Rattle.image.specs.LoadLaws.{filled-length}
 use native.Mathlib.Omega.{arith}
 use lib.Seq.{length-take-le}
 use Rattle.grammar.specs.Sound.{Bytes}
-use Rattle.image.specs.Image.{readImage}
-use Rattle.image.specs.RoundTrip.{refusal}
+use Rattle.format.specs.Image.{readImage}
+use Rattle.format.specs.RoundTrip.{refusal}
 use Rattle.meaning.specs.Demands.{Entered, image-refused, input-refused, limits-refused, slots-refused}
 use Rattle.yarnspire.specs.PromiseLaws.{found-fault, fault-small, found-good, refuses, permitted, disallowed, run-asks, run-gives}
 use borrow.Author.Needs.{needs}

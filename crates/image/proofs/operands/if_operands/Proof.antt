@@ -3,7 +3,7 @@ use mathlib.Core.Path.{ap, _∙_}
 use native.Mathlib.Omega.{arith}
 use Rattle.image.proofs.ReadLaws.{stays, goes}
 use Rattle.image.proofs.ShapeLaws.{switch-below}
-use Rattle.image.specs.Reading.{got}
+use Rattle.format.specs.Reading.{got}
 use Rattle.image.specs.Shapes.{word1}
 use borrow.Author.Needs.{needs}
 use Rattle.image.proofs.operands.if_operands.Statement.{statement}

@@ -2,7 +2,7 @@
 use mathlib.Core.Path.{ap, _∙_}
 use native.Mathlib.Omega.{arith}
 use Rattle.image.proofs.ReadLaws.{stays, goes, under}
-use Rattle.image.specs.Reading.{got}
+use Rattle.format.specs.Reading.{got}
 use Rattle.image.specs.Shapes.{word2, highAt}
 use borrow.Author.Needs.{needs}
 use Rattle.image.proofs.operands.range_operands.Statement.{statement}

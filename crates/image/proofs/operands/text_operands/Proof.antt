@@ -4,7 +4,7 @@ use native.Mathlib.Omega.{arith}
 use Rattle.image.proofs.ReadLaws.{stays, goes, under}
 use Rattle.image.proofs.ShapeLaws.{bytes-cut, bytes-there}
 use Prim.Native.Nat.{_+_}
-use Rattle.image.specs.Reading.{got}
+use Rattle.format.specs.Reading.{got}
 use Rattle.image.specs.Shapes.{bytesAt}
 use borrow.Author.Needs.{needs}
 use Rattle.image.proofs.operands.text_operands.Statement.{statement}

@@ -4,7 +4,7 @@ use mathlib.Core.Path.{_≡_, ap, _∙_}
 use native.Mathlib.Omega.{arith}
 use Rattle.image.proofs.ReadLaws.{stays, goes, under}
 use Rattle.image.proofs.ShapeLaws.{operandsAt, word-of, empty-word, byte-word, range-word, any-word, text-word, pair-word, child-word, call-word, table-word, scope-word, if-word, on-word}
-use Rattle.image.specs.Reading.{Reading, got}
+use Rattle.format.specs.Reading.{Reading, got}
 use Rattle.image.specs.Word.{wordAt}
 use borrow.Author.Needs.{needs}
 use Rattle.image.proofs.operands.word_at.Statement.{statement}

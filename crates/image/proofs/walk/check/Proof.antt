@@ -2,7 +2,7 @@
 use mathlib.Core.Path.{ap, sym}
 use native.Mathlib.Omega.{arith}
 use Rattle.image.proofs.VerdictLaws.{says-good, says-refused, place-small}
-use Rattle.image.specs.Image.{readImage}
+use Rattle.format.specs.Image.{readImage}
 use Rattle.image.specs.Meant.{verdict}
 use borrow.Author.Needs.{needs}
 use Rattle.image.proofs.walk.check.Statement.{statement}

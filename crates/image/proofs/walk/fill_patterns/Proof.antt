@@ -5,7 +5,7 @@ use borrow.Author.Needs.{needs}
 use native.Mathlib.Omega.{arith}
 use Rattle.image.proofs.FillLaws.{put-down, refused-at, all-down}
 use Rattle.image.specs.FilledLaws.{Filling, filling-starts}
-use Rattle.image.specs.Image.{bounded}
+use Rattle.format.specs.Image.{bounded}
 use Rattle.image.proofs.walk.fill_patterns.Statement.{statement}
 use Rattle.image.proofs.walk.fill_patterns.Tie as tie
 

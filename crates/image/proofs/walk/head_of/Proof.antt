@@ -3,8 +3,8 @@ use Prim.Native.Nat.{ℕ}
 use mathlib.Core.Path.{_≡_, _∙_}
 use Rattle.image.proofs.ReadLaws.{goes, breaks}
 use Rattle.image.proofs.HeadLaws.{found, afterNodes, afterConditions, afterTables, afterEdition}
-use Rattle.image.specs.Reading.{Reading}
-use Rattle.image.specs.Image.{Head, headAt}
+use Rattle.format.specs.Reading.{Reading}
+use Rattle.format.specs.Image.{Head, headAt}
 use borrow.Author.Needs.{needs}
 use Rattle.image.proofs.walk.head_of.Statement.{statement}
 use Rattle.image.proofs.walk.head_of.Tie as tie

@@ -4,9 +4,10 @@ use native.Mathlib.Omega.{arith}
 use Rattle.grammar.specs.Sound.{Bytes}
 use Rattle.image.proofs.HeadLaws.{found, few}
 use Rattle.image.proofs.WalkLaws.{promised, putting, too-long, no-head, no-patterns, no-nodes, left-over, all-good}
-use Rattle.image.specs.Image.{headAt}
+use Rattle.format.specs.Image.{headAt}
 use Rattle.image.specs.Filled.{filling}
-use Rattle.image.specs.Meant.{reading, header}
+use Rattle.reader.specs.Meant.{reading}
+use Rattle.image.specs.Meant.{header}
 use Rattle.image.specs.Word.{wordAt}
 use borrow.Author.Needs.{needs}
 use Rattle.image.proofs.walk.load.Statement.{statement}

@@ -1,6 +1,6 @@
 -- `given` meets its promise. Assumes nothing.
 use mathlib.Core.Path.{_≡_, ap, sym, _∙_}
-use Rattle.image.specs.Reading.{pick}
+use Rattle.format.specs.Reading.{pick}
 use Rattle.parts.specs.declared.outcome.Outcome.the-variants.{Passed, Failed}
 use borrow.Author.Needs.{needs}
 use Rattle.kinds.proofs.inside.given.Statement.{statement}

@@ -18,7 +18,6 @@ use Rattle.machine.proofs.evaluate.+choice+eval+sequence+star.Lts-star 
 use Rattle.image.proofs.node_of.Reads as node-of-reads
 use Rattle.parts.proofs.bytes.begins_with.Reads as begins-with-reads
 use Rattle.parts.proofs.bytes.within.Reads as within-reads
-use Rattle.machine.proofs.evaluate.greater.Reads as greater-reads
 use Rattle.kinds.proofs.inside.again.Reads as again-reads
 use Rattle.kinds.proofs.inside.closed.Reads as closed-reads
 use Rattle.kinds.proofs.inside.defined.Reads as defined-reads
@@ -32,6 +31,7 @@ use Rattle.parts.proofs.outcome.opened.Reads as opened-reads
 use Rattle.parts.proofs.outcome.passed.Reads as passed-reads
 use Rattle.parts.proofs.outcome.refused.Reads as refused-reads
 use Rattle.parts.proofs.slots.latest.Reads as latest-reads
+use Rattle.tally.proofs.entered.Reads as entered-reads
 use Rattle.kinds.proofs.state.floor.Reads as floor-reads
 use Rattle.kinds.proofs.state.truth.Reads as truth-reads
 use Rattle.kinds.proofs.state.with_floor.Reads as with-floor-reads
@@ -85,8 +85,8 @@ abbrev pub eval-claims : ℕ → eval-lts.Claims
 eval-claims t = (
   refused-reads.Asked,
   refused-reads.Learnt,
-  greater-reads.Asked,
-  greater-reads.Learnt,
+  entered-reads.Asked,
+  entered-reads.Learnt,
   node-of-reads.Asked,
   node-of-reads.Learnt,
   passed-reads.Asked,
@@ -151,4 +151,6 @@ star-claims t = (
   passed-reads.Learnt,
   refused-reads.Asked,
   refused-reads.Learnt,
+  entered-reads.Asked,
+  entered-reads.Learnt,
 )

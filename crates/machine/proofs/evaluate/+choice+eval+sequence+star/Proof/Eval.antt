@@ -12,6 +12,7 @@ use Rattle.meaning.specs.Outcome.{same, some, part, text, begins, among}
 use Rattle.parts.specs.Slots.{symbolAt, symbols}
 use Rattle.kinds.specs.Held.{envOf}
 use Rattle.parts.specs.Seen.{listed}
+use Rattle.tally.specs.declared.Tally.{Tally}
 use Rattle.machine.specs.Ready.{roomLimit}
 use Rattle.machine.specs.ReadyLaws.{below-same}
 use Rattle.machine.specs.DoneLaws.{done-as, done-given, done-passed, done-failed, done-not, done-on, done-named, done-def, done-closed}
@@ -28,14 +29,18 @@ module _ (t : ℕ) where
     abbrev start : lts.Start (eval-claims t) (eval-at t) eval.Post
     start = k .before .before .before .before .before .before .before .before .before .before
 
+    abbrev charged : Tally
+    charged = k .before .before .entered .result
+
     entry : let a = start .args in
-        Entry (a .code .now) (a .image .now) (a .input .now) (a .slots .now) (a .left) (a .node) (a .at) (a .held) (a .spent) (a .deepest) (k .before .before .greater .result)
+        Entry (a .code .now) (a .image .now) (a .input .now) (a .slots .now) (a .left) (a .node) (a .at) (a .held) (a .spent) (a .deepest) (charged .steps) (charged .depth)
     entry = record {
       ready = start .pre .1 .0;
       numbered = start .pre .1 .1;
       more = pos-of-ne-zero (k .before .before .before .before .if2 .left);
       step = k .before .before .before .before .before .if1 .left;
-      deeper = k .before .before .greater .ensures;
+      counted = ap (λ (t : Tally). t .steps) (k .before .before .entered .ensures);
+      deeper = ap (λ (t : Tally). t .depth) (k .before .before .entered .ensures);
     }
 
     falls : start .args .left * 2 ≡ t
@@ -59,17 +64,15 @@ module _ (t : ℕ) where
   pub sub-below : lts.Need-sub-below (eval-claims t) (eval-at t) eval.Post
   sub-below c = search needs
 
-  pub add-steps : lts.Need-add-steps (eval-claims t) (eval-at t) eval.Post
-  add-steps c = let r = c .before .before .before .before .before .before .pre .1 .0 in omega (arith, r .spent, r .few-steps)
+  pub element-copy-out-entered : lts.Need-element-copy-out-entered (eval-claims t) (eval-at t) eval.Post
+  element-copy-out-entered c = search needs
 
-  pub element-copy-out-greater : lts.Need-element-copy-out-greater (eval-claims t) (eval-at t) eval.Post
-  element-copy-out-greater c = search needs
+  pub sub-entered : lts.Need-sub-entered (eval-claims t) (eval-at t) eval.Post
+  sub-entered c = let r = c .before .before .before .before .before .before .before .pre .1 .0 in omega (arith, r .deep)
 
-  pub sub-greater : lts.Need-sub-greater (eval-claims t) (eval-at t) eval.Post
-  sub-greater c = let r = c .before .before .before .before .before .before .before .pre .1 .0 in omega (arith, r .deep)
-
-  pub greater-requires : lts.Need-greater-requires (eval-claims t) (eval-at t) eval.Post
-  greater-requires c κs = search needs
+  pub entered-requires : lts.Need-entered-requires (eval-claims t) (eval-at t) eval.Post
+  entered-requires c κs =
+      let r = c .before .before .before .before .before .before .before .pre .1 .0 in omega (arith, c .before .before .if1 .left, r .few-steps)
 
   pub mul-node-of : lts.Need-mul-node-of (eval-claims t) (eval-at t) eval.Post
   mul-node-of c = search needs
@@ -269,7 +272,7 @@ module _ (t : ℕ) where
   returns-3 c =
       let k = c .before .before .before .before .before .before .before .before in let a = c .before .before .before .before .before .before .before .before .before .before .before .before .before .before .before .before .before .before .args in let E = entry k in
       let i = c .before .before .before .before .before .before .kind10 .given in let K = sym (i .1) ∙ k .node-of .ensures in
-      done-as (done-failed (a .spent + 1) (c .before .before .before .before .before .before .before .before .before .before .greater .result) (c .failed .ensures)) (says-match-none E (a .state) K (unseen (i .0 .0) (a .state) (a .slots .now) (a .held) (c .before .before .before .floor .ensures) (c .before .before .latest .ensures) (c .before .if3 .taken)))
+      done-as (done-failed (c .before .before .before .before .before .before .before .before .before .before .entered .result .steps) (c .before .before .before .before .before .before .before .before .before .before .entered .result .depth) (c .failed .ensures)) (says-match-none E (a .state) K (unseen (i .0 .0) (a .state) (a .slots .now) (a .held) (c .before .before .before .floor .ensures) (c .before .before .latest .ensures) (c .before .if3 .taken)))
 
   pub sub-again : lts.Need-sub-again (eval-claims t) (eval-at t) eval.Post
   sub-again c = search needs
@@ -306,7 +309,7 @@ module _ (t : ℕ) where
   returns-4 c =
       let k = c .before .before .before .before .before .before .before .before in let a = c .before .before .before .before .before .before .before .before .before .before .before .before .before .before .before .before .before .before .args in let E = entry k in
       let i = c .before .before .before .before .before .before .kind11 .given in let K = sym (i .1) ∙ k .node-of .ensures in
-      done-as (done-failed (a .spent + 1) (c .before .before .before .before .before .before .before .before .before .before .greater .result) (c .failed2 .ensures)) (says-is-none E (a .state) K (unseen (i .0 .0) (a .state) (a .slots .now) (a .held) (c .before .before .before .floor2 .ensures) (c .before .before .latest2 .ensures) (c .before .if4 .taken)))
+      done-as (done-failed (c .before .before .before .before .before .before .before .before .before .before .entered .result .steps) (c .before .before .before .before .before .before .before .before .before .before .entered .result .depth) (c .failed2 .ensures)) (says-is-none E (a .state) K (unseen (i .0 .0) (a .state) (a .slots .now) (a .held) (c .before .before .before .floor2 .ensures) (c .before .before .latest2 .ensures) (c .before .if4 .taken)))
 
   pub add-pattern-2 : lts.Need-add-pattern-2 (eval-claims t) (eval-at t) eval.Post
   add-pattern-2 c =
@@ -367,7 +370,7 @@ module _ (t : ℕ) where
   returns-5 c =
       let k = c .before .before .before .before .before .before .before .before in let a = c .before .before .before .before .before .before .before .before .before .before .before .before .before .before .before .before .before .before .args in let E = entry k in
       let i = c .before .before .before .before .before .before .kind12 .given in let K = sym (i .1) ∙ k .node-of .ensures in
-      done-as (done-failed (a .spent + 1) (c .before .before .before .before .before .before .before .before .before .before .greater .result) (c .failed3 .ensures)) (says-isa-none E (a .state) K (unseen (i .0 .0) (a .state) (a .slots .now) (a .held) (c .before .before .before .before .floor3 .ensures) (c .before .before .latest3 .ensures) (c .before .if5 .taken)))
+      done-as (done-failed (c .before .before .before .before .before .before .before .before .before .before .entered .result .steps) (c .before .before .before .before .before .before .before .before .before .before .entered .result .depth) (c .failed3 .ensures)) (says-isa-none E (a .state) K (unseen (i .0 .0) (a .state) (a .slots .now) (a .held) (c .before .before .before .before .floor3 .ensures) (c .before .before .latest3 .ensures) (c .before .if5 .taken)))
 
   pub add-pattern-3 : lts.Need-add-pattern-3 (eval-claims t) (eval-at t) eval.Post
   add-pattern-3 c =
@@ -493,31 +496,31 @@ module _ (t : ℕ) where
   returns-6 c =
       let k = c .before .before .before in let a = c .before .before .before .before .before .before .before .before .before .before .before .before .before .args in let E = entry k in
       let K = sym (empty-node (k .node-of .result) (c .before .before .match .keys1)) ∙ k .node-of .ensures in
-      done-as (done-passed (a .at) (a .spent + 1) (c .before .before .before .before .before .greater .result) (c .passed .ensures)) (says-empty E (a .state) K)
+      done-as (done-passed (a .at) (c .before .before .before .before .before .entered .result .steps) (c .before .before .before .before .before .entered .result .depth) (c .passed .ensures)) (says-empty E (a .state) K)
 
   pub returns-7 : lts.Need-returns-7 (eval-claims t) (eval-at t) eval.Post
   returns-7 c =
       let k = c .before .before .before .before .before in let a = c .before .before .before .before .before .before .before .before .before .before .before .before .before .before .before .args in let E = entry k in
       let i = c .before .before .before .kind .given in let K = sym (i .1) ∙ k .node-of .ensures in
-      done-as (done-given (c .before .within .result) (a .at + 1) (a .spent + 1) (c .before .before .before .before .before .before .before .greater .result) (c .given .ensures)) (says-byte E (a .state) K (c .before .within .ensures))
+      done-as (done-given (c .before .within .result) (a .at + 1) (c .before .before .before .before .before .before .before .entered .result .steps) (c .before .before .before .before .before .before .before .entered .result .depth) (c .given .ensures)) (says-byte E (a .state) K (c .before .within .ensures))
 
   pub returns-8 : lts.Need-returns-8 (eval-claims t) (eval-at t) eval.Post
   returns-8 c =
       let k = c .before .before .before .before .before in let a = c .before .before .before .before .before .before .before .before .before .before .before .before .before .before .before .args in let E = entry k in
       let i = c .before .before .before .kind2 .given in let K = sym (i .1) ∙ k .node-of .ensures in
-      done-as (done-given (c .before .within2 .result) (a .at + 1) (a .spent + 1) (c .before .before .before .before .before .before .before .greater .result) (c .given2 .ensures)) (says-range E (a .state) K (c .before .within2 .ensures))
+      done-as (done-given (c .before .within2 .result) (a .at + 1) (c .before .before .before .before .before .before .before .entered .result .steps) (c .before .before .before .before .before .before .before .entered .result .depth) (c .given2 .ensures)) (says-range E (a .state) K (c .before .within2 .ensures))
 
   pub returns-9 : lts.Need-returns-9 (eval-claims t) (eval-at t) eval.Post
   returns-9 c =
       let k = c .before .before .before in let a = c .before .before .before .before .before .before .before .before .before .before .before .before .before .args in let E = entry k in
       let K = sym (any-node (k .node-of .result) (c .before .before .match .keys4)) ∙ k .node-of .ensures in
-      done-as (done-given (ltb (a .at) (length (a .input .now))) (a .at + 1) (a .spent + 1) (c .before .before .before .before .before .greater .result) (c .given3 .ensures)) (says-any E (a .state) K refl)
+      done-as (done-given (ltb (a .at) (length (a .input .now))) (a .at + 1) (c .before .before .before .before .before .entered .result .steps) (c .before .before .before .before .before .entered .result .depth) (c .given3 .ensures)) (says-any E (a .state) K refl)
 
   pub returns-10 : lts.Need-returns-10 (eval-claims t) (eval-at t) eval.Post
   returns-10 c =
       let k = c .before .before .before .before .before in let a = c .before .before .before .before .before .before .before .before .before .before .before .before .before .before .before .args in let E = entry k in
       let i = c .before .before .before .kind3 .given in let K = sym (i .1) ∙ k .node-of .ensures in
-      done-as (done-given (c .before .begins-with .result) (a .at + i .0 .1 .0) (a .spent + 1) (c .before .before .before .before .before .before .before .greater .result) (c .given4 .ensures)) (says-text E (a .state) K (c .before .begins-with .ensures))
+      done-as (done-given (c .before .begins-with .result) (a .at + i .0 .1 .0) (c .before .before .before .before .before .before .before .entered .result .steps) (c .before .before .before .before .before .before .before .entered .result .depth) (c .given4 .ensures)) (says-text E (a .state) K (c .before .begins-with .ensures))
 
   pub same-length-4 : lts.Need-same-length-4 (eval-claims t) (eval-at t) eval.Post
   same-length-4 c = search needs
@@ -582,7 +585,7 @@ module _ (t : ℕ) where
       let k = c .before .before .before .before .before .before .before .before .before in let a = c .before .before .before .before .before .before .before .before .before .before .before .before .before .before .before .before .before .before .before .args in let E = entry k in
       let i = c .before .before .before .before .before .before .before .kind10 .given in let K = sym (i .1) ∙ k .node-of .ensures in
       let y = symbolAt (a .slots .now) (c .before .before .before .latest .result - 1) in
-      done-as (done-given (begins (text (a .input .now) y) (drop (a .at) (a .input .now))) (a .at + length (text (a .input .now) y)) (a .spent + 1) (c .before .before .before .before .before .before .before .before .before .before .before .greater .result) (c .again .ensures))
+      done-as (done-given (begins (text (a .input .now) y) (drop (a .at) (a .input .now))) (a .at + length (text (a .input .now) y)) (c .before .before .before .before .before .before .before .before .before .before .before .entered .result .steps) (c .before .before .before .before .before .before .before .before .before .before .before .entered .result .depth) (c .again .ensures))
       (says-match E (a .state) y (listed (i .0 .0) (c .before .before .before .before .floor .result) (a .slots .now) (c .before .before .before .latest .result - 1)) K (in-view (i .0 .0) (a .state) (a .slots .now) (a .held) (c .before .before .before .before .floor .ensures) (c .before .before .before .latest .ensures) (pos-of-ne-zero (c .before .before .if3 .left))))
 
   pub same-length-11 : lts.Need-same-length-11 (eval-claims t) (eval-at t) eval.Post
@@ -618,7 +621,7 @@ module _ (t : ℕ) where
   returns-20 c =
       let k = c .before .before .before .before .before .before .before in let a = c .before .before .before .before .before .before .before .before .before .before .before .before .before .before .before .before .before .args in let E = entry k in
       let i = c .before .before .before .before .before .kind13 .given in let K = sym (i .1) ∙ k .node-of .ensures in
-      done-as (done-given (ltb 0 (c .before .latest4 .result)) (a .at) (a .spent + 1) (c .before .before .before .before .before .before .before .before .before .greater .result) (c .given5 .ensures)) (says-exists E (a .state) K (any-seen (i .0 .0) (a .state) (a .slots .now) (a .held) (c .before .before .floor4 .ensures) (c .before .latest4 .ensures)))
+      done-as (done-given (ltb 0 (c .before .latest4 .result)) (a .at) (c .before .before .before .before .before .before .before .before .before .entered .result .steps) (c .before .before .before .before .before .before .before .before .before .entered .result .depth) (c .given5 .ensures)) (says-exists E (a .state) K (any-seen (i .0 .0) (a .state) (a .slots .now) (a .held) (c .before .before .floor4 .ensures) (c .before .latest4 .ensures)))
 
   pub same-length-14 : lts.Need-same-length-14 (eval-claims t) (eval-at t) eval.Post
   same-length-14 c = search needs
@@ -642,7 +645,7 @@ module _ (t : ℕ) where
   returns-23 c =
       let k = c .before .before .before .before .before in let a = c .before .before .before .before .before .before .before .before .before .before .before .before .before .before .before .args in let E = entry k in
       let i = c .before .before .before .kind16 .given in let K = sym (i .1) ∙ k .node-of .ensures in
-      done-as (done-given (Bool·beq (c .before .truth .result) (i .0 .1 .0)) (a .at) (a .spent + 1) (c .before .before .before .before .before .before .before .greater .result) (c .given6 .ensures)) (says-if E (a .state) K (agrees (i .0 .1 .0) (c .before .truth .ensures)))
+      done-as (done-given (Bool·beq (c .before .truth .result) (i .0 .1 .0)) (a .at) (c .before .before .before .before .before .before .before .entered .result .steps) (c .before .before .before .before .before .before .before .entered .result .depth) (c .given6 .ensures)) (says-if E (a .state) K (agrees (i .0 .1 .0) (c .before .truth .ensures)))
 
   pub same-length-16 : lts.Need-same-length-16 (eval-claims t) (eval-at t) eval.Post
   same-length-16 c = search needs

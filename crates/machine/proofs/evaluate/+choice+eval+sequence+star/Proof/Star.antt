@@ -5,6 +5,8 @@ use mathlib.Core.Path.{sym, _∙_, subst}
 use native.Mathlib.Omega.{arith}
 use borrow.Author.Needs.{needs}
 use Rattle.grammar.specs.Grammar.{node}
+use Rattle.tally.specs.declared.Tally.{Tally}
+use Rattle.tally.specs.Charged.{later-round}
 use Rattle.kinds.specs.Turned.{Bounds}
 use Rattle.kinds.specs.TurnedLaws.{Stops, Stays}
 use Rattle.machine.specs.Ready.{grammarOf, roomLimit}
@@ -110,24 +112,26 @@ module _ (t : ℕ) where
       star-spent (a .code .now) (a .image .now) (a .input .now) (a .slots .now) (a .state) (a .left) (a .a) (a .at) (a .held) (a .steps) (a .depth) (c .before .before .before .before .before .before .before .before .before .before .before .before .loop .inv) (c .before .before .before .before .before .before .before .before .before .before .eval .ensures)
       (i .0 .0) (i .0 .1 .0) (i .0 .1 .1 .0) (i .0 .1 .1 .1 .0) (sym (c .before .before .before .before .before .before .before .opened .ensures) ∙ i .1) (c .before .before .before .if1 .left) (c .before .if2 .taken) (c .refused2 .ensures)
 
-  pub add-charged : lts.Need-add-charged (star-claims t) (star-at t) star.Post Inv-loop μ-loop
-  add-charged c =
+  pub entered-requires : lts.Need-entered-requires (star-claims t) (star-at t) star.Post Inv-loop μ-loop
+  entered-requires c κs =
       let l = c .before .before .before .before .before .before .before .before .before .before .before .loop .inv .ready in
       omega (arith, l .few-steps, c .if2 .left)
 
   pub loop-less : lts.Need-loop-less (star-claims t) (star-at t) star.Post Inv-loop μ-loop
   loop-less c =
-      let l = c .before .before .before .before .before .before .before .before .before .before .before .loop .inv .ready in
-      let a = c .before .before .before .before .before .before .before .before .before .before .before .before .before .before .before .args in
-      let e = sym (c .before .before .before .before .before .before .opened .ensures) ∙ c .before .before .before .before .round .given .1 in
-      let b = subst (Bounds (length (a .input .now)) (c .before .before .before .before .before .before .before .before .before .before .before .loop .here) (c .before .before .before .before .before .before .before .before .before .before .before .loop .stored) (roomLimit (a .code .now))) e
-      (bounds-of (a .state) (node (grammarOf (a .image .now)) (a .a)) l (c .before .before .before .before .before .before .before .before .before .eval .ensures)) in
-      omega (arith, b .1, c .before .before .if1 .left)
+      let l = c .before .before .before .before .before .before .before .before .before .before .before .before .loop .inv .ready in
+      let a = c .before .before .before .before .before .before .before .before .before .before .before .before .before .before .before .before .args in
+      let e = sym (c .before .before .before .before .before .before .before .opened .ensures) ∙ c .before .before .before .before .before .round .given .1 in
+      let b = subst (Bounds (length (a .input .now)) (c .before .before .before .before .before .before .before .before .before .before .before .before .loop .here) (c .before .before .before .before .before .before .before .before .before .before .before .before .loop .stored) (roomLimit (a .code .now))) e
+      (bounds-of (a .state) (node (grammarOf (a .image .now)) (a .a)) l (c .before .before .before .before .before .before .before .before .before .before .eval .ensures)) in
+      omega (arith, b .1, c .before .before .before .if1 .left)
 
   pub loop-again : lts.Need-loop-again (star-claims t) (star-at t) star.Post Inv-loop μ-loop
   loop-again c =
-      let s = c .before .before .before .before .before .before .before .before .before .before .before .before .before .before .before in
+      let s = c .before .before .before .before .before .before .before .before .before .before .before .before .before .before .before .before in
       let a = s .args in
-      let i = c .before .before .before .before .round .given in
-      star-again (a .code .now) (a .image .now) (a .input .now) (a .slots .now) (a .state) (a .left) (a .a) (a .at) (a .held) (a .steps) (a .depth) (c .before .before .before .before .before .before .before .before .before .before .before .loop .inv) (c .before .before .before .before .before .before .before .before .before .eval .ensures)
-      (i .0 .0) (i .0 .1 .0) (i .0 .1 .1 .0) (i .0 .1 .1 .1 .0) (sym (c .before .before .before .before .before .before .opened .ensures) ∙ i .1) (c .before .before .if1 .left) (c .if2 .left) (s .pre .1 .2)
+      let i = c .before .before .before .before .before .round .given in
+      subst (λ (t : Tally). Rounds (a .code .now) (a .image .now) (a .input .now) (a .slots .now) (a .state) (a .left) (a .a) (a .at) (a .held) (a .steps) (a .depth) (c .before .before .before .before .before .before .before .before .before .before .eval .last .1 .1 .1 .0) (i .0 .0) (i .0 .1 .0) (t .steps) (t .depth))
+      (sym (c .entered .ensures ∙ later-round (i .0 .1 .1 .0) (i .0 .1 .1 .1 .0)))
+      (star-again (a .code .now) (a .image .now) (a .input .now) (a .slots .now) (a .state) (a .left) (a .a) (a .at) (a .held) (a .steps) (a .depth) (c .before .before .before .before .before .before .before .before .before .before .before .before .loop .inv) (c .before .before .before .before .before .before .before .before .before .before .eval .ensures)
+      (i .0 .0) (i .0 .1 .0) (i .0 .1 .1 .0) (i .0 .1 .1 .1 .0) (sym (c .before .before .before .before .before .before .before .opened .ensures) ∙ i .1) (c .before .before .before .if1 .left) (c .before .if2 .left) (s .pre .1 .2))

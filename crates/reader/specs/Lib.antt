@@ -1,0 +1,3 @@
+-- What the reader gives, in terms of the format.
+pub mod Meant
+pub mod Unique

@@ -1,0 +1,3 @@
+-- What charging does to the tally.
+pub mod Charged
+pub mod Unique
