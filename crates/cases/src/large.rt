@@ -1,4 +1,5 @@
 // Cases that are too large for a line, or lend another number of slots.
+use crate::show::ample;
 use crate::show::answered;
 use crate::show::check;
 use crate::show::recognise;
@@ -13,6 +14,8 @@ pub fn all() {
     lent();
     million();
     long_texts();
+    ample_limits();
+    crowded();
 }
 
 // 129 nodes, 128 Empty and then Any, and a start of two bytes: 01 00 00, 81 01, 80 01, and a byte for each node.
@@ -213,5 +216,60 @@ fn long_texts() {
         1,
         1,
         1,
+    );
+}
+
+// The Harbour cases with ample limits: 1,000,000 steps, a depth of 256 and room for 256 symbols. The working is above the same cases of the file `cases`.
+fn ample_limits() {
+    ample(
+        b"H on A=AB, ample limits",
+        b"\x01\x01\x00\x08\x07\x02\x02\x41\x5A\x07\x00\x05\x00\x01\x0A\x00\x01\x3D\x0C\x00\x05\x04\x05\x05\x03\x06",
+        b"A=AB",
+    );
+    ample(
+        b"H with Match for Is on A=AB, ample limits",
+        b"\x01\x01\x00\x08\x07\x02\x02\x41\x5A\x07\x00\x05\x00\x01\x0A\x00\x01\x3D\x0B\x00\x05\x04\x05\x05\x03\x06",
+        b"A=AB",
+    );
+    ample(
+        b"Def then Local of Exists, ample limits",
+        b"\x01\x01\x00\x05\x04\x00\x02\x41\x5A\x0A\x00\x0E\x00\x10\x00\x02\x05\x01\x03",
+        b"A",
+    );
+    ample(
+        b"Def then Block of Exists, ample limits",
+        b"\x01\x01\x00\x05\x04\x00\x02\x41\x5A\x0A\x00\x0E\x00\x0F\x00\x02\x05\x01\x03",
+        b"A",
+    );
+    ample(
+        b"On of Def, then Exists, ample limits",
+        b"\x01\x01\x01\x05\x04\x00\x02\x41\x5A\x0A\x00\x12\x00\x01\x01\x0E\x00\x05\x02\x03",
+        b"A",
+    );
+    ample(
+        b"If c 1 with no On, ample limits",
+        b"\x01\x00\x01\x01\x00\x11\x00\x01",
+        b"A",
+    );
+    ample(
+        b"If c 0, ample limits",
+        b"\x01\x00\x01\x01\x00\x11\x00\x00",
+        b"A",
+    );
+}
+
+// Star of Def of one byte. Each of 256 bytes takes a round, a def and its pattern, and the round after them fails: 771 steps. One byte more has no
+// room, and the same 771 steps are charged until then.
+fn crowded() {
+    let zeros = [0u8; 257];
+    ample(
+        b"256 symbols",
+        b"\x01\x01\x00\x03\x02\x00\x03\x0A\x00\x07\x01",
+        &zeros[..256],
+    );
+    ample(
+        b"257 symbols",
+        b"\x01\x01\x00\x03\x02\x00\x03\x0A\x00\x07\x01",
+        &zeros,
     );
 }
