@@ -1,4 +1,4 @@
--- Laws of the reader's parts that both directions of the round trip use.
+-- Laws of reading that both directions of the round trip use.
 use Prim.Native.Nat.{ℕ, zero, suc, _+_, _≤_, _<_}
 use mathlib.Core.Path.{_≡_, refl, ap, sym, _∙_}
 use mathlib.Core.Bool.{Bool, true, false}

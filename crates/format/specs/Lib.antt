@@ -1,4 +1,4 @@
--- How a grammar is written as an image and how an image is read: what a reader must believe, and beside it the laws that show that the two fit together.
+-- How a grammar is written as an image and how an image is read: what one must believe, and beside it the laws that show that the two fit together.
 pub mod Reading
 pub mod ReadingLaws
 pub mod Number

@@ -1,4 +1,4 @@
--- What is written is read back: where the writing of something sound stands, the reader gives it.
+-- What is written is read back: where the writing of something sound stands, reading gives it.
 use Prim.Native.Nat.{ℕ, zero, suc, _+_, _≤_, _<_}
 use mathlib.Core.Path.{_≡_, refl, ap, sym, _∙_}
 use mathlib.Core.Bool.{true, false}

@@ -128,7 +128,7 @@ read-back image g s =
     rw (le-ltb 16384 (length image) (s .short), b .is)
     (rw (le-ltb (b .next) (length image) (omega (arith, simp length-drop at (ap length (b .after))))))
 
--- THE ROUND TRIP. The reader says good with g exactly if g is sound, `encode g` is the image, and it is at most 16,384 bytes.
+-- THE ROUND TRIP. `readImage` says good with g exactly if g is sound, `encode g` is the image, and it is at most 16,384 bytes.
 pub exact : (image : List ℕ) → Bytes image → (g : Grammar) → (readImage image ≡ good g) ↔ Stands image g
 exact image bytes g = ((λ e. of-good (rw e at (said image bytes))), read-back image g)
 

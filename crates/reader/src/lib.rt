@@ -1,4 +1,4 @@
-// A reader over an image: it hands out one number at a time, with its place.
+// A reader over an image: it hands out one number at a time. The number's place is where the reader stood, and behind it the reader then stands.
 //
 // `number_from` is what the walk over an image reads every number through.
 pub mod number;

@@ -1,11 +1,11 @@
-// The numbers of an image: how one is read. Other crates read numbers through `reader::number_from` alone.
+// The numbers of an image: how one is read.
 ghost use mathlib.Core.Path.{_≡_};
 ghost use Prim.Native.Nat.{_+_, _<_, _≤_};
 ghost use lib.ListN.{drop, length};
 ghost use Rattle.format.specs.Number.{numberAt, second, third};
 ghost use Rattle.reader.specs.Meant.{reading};
 
-// A number and the place after it.
+// A number and the place after it. Its own place is the one that it was asked for at: where the reader stood.
 pub struct Number {
     pub value: u32,
     pub next: usize,

@@ -1,5 +1,5 @@
-// A reader stands over an image and hands out one number at a time. The functions over it take it apart and leave the work to
-// `number_at` and `after`, which know of no reader.
+// A reader stands over an image and hands out one number at a time. `next` takes it apart and leaves the work to `number_at` and `after`, which
+// know of no reader.
 ghost use mathlib.Core.Path.{_≡_};
 ghost use Rattle.format.specs.Number.{numberAt};
 ghost use Rattle.reader.specs.Meant.{reading, behind, moved};
@@ -26,7 +26,7 @@ pub fn stands<'a>(r: Reader<'a>) -> usize
     r.at
 }
 
-// The next number. The reader then stands behind it, or where it stood if there is none.
+// The number at the reader's place. The reader then stands behind it, or where it stood if it is refused.
 pub fn next<'s, 'a>(r: &'s mut Reader<'a>) -> Read
     ensures { λ n. ⌜ (reading n ≡ numberAt (now (now (r .entry) .image)) (now (r .entry) .at)) × (now (r .exit) ≡ moved (now (r .entry))) ⌝ }
 {

@@ -71,6 +71,7 @@ pub fn recognise(
     if slots.len() < lent {
         return refuse(11, 0);
     }
+    // The limits stand behind the nodes and patterns.
     code[520] = steps;
     code[521] = depth;
     code[522] = room;

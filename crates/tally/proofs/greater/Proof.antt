@@ -1,4 +1,4 @@
--- `greater` meets its promise: the test decides which of the two is the greatest. Assumes nothing.
+-- `greater` meets its promise: the test decides which of the two is the greater. Assumes nothing.
 use native.Mathlib.Omega.{arith}
 use Rattle.tally.proofs.greater.Statement.{statement}
 use Rattle.tally.proofs.greater.Tie as tie
