@@ -34,11 +34,16 @@ missing_packages() {
     done
 }
 
-# install PACKAGES..
+# install PACKAGES..: tries three times, since a network may fail once.
 install() {
-    dpkg --add-architecture amd64 &&
-        apt-get update &&
-        DEBIAN_FRONTEND=noninteractive apt-get install -y --no-install-recommends "$@"
+    dpkg --add-architecture amd64
+    for pause in 5 20 0; do
+        if apt-get update && DEBIAN_FRONTEND=noninteractive apt-get install -y --no-install-recommends "$@"; then
+            return 0
+        fi
+        sleep $pause
+    done
+    return 1
 }
 
 # Installs the cross tools that are missing. What is said about it is kept in target/cross.log, and shown only if it fails.
