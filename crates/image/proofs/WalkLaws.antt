@@ -23,9 +23,9 @@ pub record Walk (image before after : List ℕ) (r : Loaded) : Type 0 where
   pub answer : r ≡ answered (readImage image)
   pub array : after ≡ filled image before
 
--- What the walk says and puts down is the promise, for a list of bytes and an array of 523 numbers.
+-- What the walk says and puts down is the promise, for a list of bytes and an array of 524 numbers.
 pub promised :
-    {image before after : List ℕ} {r : Loaded} → Bytes image → length before ≡ 523 → Walk image before after r
+    {image before after : List ℕ} {r : Loaded} → Bytes image → length before ≡ 524 → Walk image before after r
     → Loads image before after r
 promised {image} {before} {after} bytes room w = record {
   answer = w .answer;

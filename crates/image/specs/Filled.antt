@@ -1,4 +1,4 @@
--- What the walk over an image puts down: an array of 523 numbers, a word for each node at the node's number, and each table's
+-- What the walk over an image puts down: an array of 524 numbers, a word for each node at the node's number, and each table's
 -- pattern at 512 plus the table's number. The three numbers behind those are left as they are: a caller keeps its limits there.
 use Prim.Native.Nat.{ℕ, zero, suc, _+_, _<_}
 use mathlib.Core.Path.{_≡_}

@@ -207,7 +207,7 @@ module _ (image : List ℕ) (bytes : Bytes image) (short : length image ≤ 1638
 
 -- ## A good image
 
-module _ (image : List ℕ) (bytes : Bytes image) (before : List ℕ) (room : length before ≡ 523) where
+module _ (image : List ℕ) (bytes : Bytes image) (before : List ℕ) (room : length before ≡ 524) where
   module _ (short : length image ≤ 16384) {h : Head} {at : ℕ} (eh : headAt image ≡ got h at)
       {ps : List ℕ} {next : ℕ} (ep : patternsAt image h at ≡ got ps next)
       {xs : List Expr} {end : ℕ} (ex : nodesAt image h next ≡ got xs end) where
@@ -246,7 +246,7 @@ module _ (image : List ℕ) (bytes : Bytes image) (before : List ℕ) (room : le
     word-at n l =
         let own : 0 + (0 + n) ≡ n = omega arith in
         let long : length (withPatterns image h at before)
-        ≡ 523 = filling-length (λ t. bounded image 7 0 (h .nodes)) 512 0 (h .tables) at before ∙ room in
+        ≡ 524 = filling-length (λ t. bounded image 7 0 (h .nodes)) 512 0 (h .tables) at before ∙ room in
         ap (λ l. getD l n 0) array-is
         ∙ rw own at (filling-at words 0 0 (h .nodes) next n (withPatterns image h at before) (read .value) (read .next) (read .first)
         (omega (arith, count)) (omega (arith, few .2)))

@@ -1,11 +1,13 @@
 -- The node that a word keeps, and the expression that a node stands for.
 use Prim.Native.Nat.{ℕ, _+_, _/_, _%_, _≤_}
 use mathlib.Core.Path.{_≡_}
+use mathlib.Core.Bool.{true, false}
 use mathlib.Core.List.{List, [], _∷_}
 use lib.Dec.{eqb}
 use lib.ListN.{length, take, drop, getD}
 use Rattle.grammar.specs.Expr as e
 use Rattle.image.specs.declared.node.Node.{Node}
+use Rattle.image.specs.declared.node.Span.{Span}
 use Rattle.image.specs.declared.node.Node.the-variants.{Empty, Byte, Range, Any, Text, Sequence, Choice, Star, Not, Call, Def, Match, Is, Isa, Exists, Block, Local, If, On}
 
 -- The kinds by their tags, but the last. A byte is taken below 256, so that it fits a byte whatever the word is; in the word of a good
@@ -43,6 +45,31 @@ exprOf image (Block t a) = e.Block t a
 exprOf image (Local t a) = e.Local t a
 exprOf image (If c truth) = e.If c truth
 exprOf image (On c truth a) = e.On c truth a
+
+abbrev nothing : Span
+nothing = record { one = false; lo = 0; hi = 0 }
+
+-- The kinds that ask for a single byte, and the bytes that they take.
+abbrev pub spanOf : Node → Span
+spanOf (Byte b) = record { one = true; lo = b; hi = b }
+spanOf (Range lo hi) = record { one = true; lo = lo; hi = hi }
+spanOf Any = record { one = true; lo = 0; hi = 255 }
+spanOf Empty = nothing
+spanOf (Text place count) = nothing
+spanOf (Sequence a b) = nothing
+spanOf (Choice a b) = nothing
+spanOf (Star a) = nothing
+spanOf (Not a) = nothing
+spanOf (Call a) = nothing
+spanOf (Def t) = nothing
+spanOf (Match t) = nothing
+spanOf (Is t) = nothing
+spanOf (Isa t) = nothing
+spanOf (Exists t) = nothing
+spanOf (Block t a) = nothing
+spanOf (Local t a) = nothing
+spanOf (If c truth) = nothing
+spanOf (On c truth a) = nothing
 
 -- The bytes of a Text lie in the image.
 abbrev pub InImage : (image : List ℕ) → Node → Type 0

@@ -2,7 +2,7 @@
 ghost use mathlib.Core.Path.{_≡_};
 ghost use Prim.Native.Nat.{_<_};
 ghost use Rattle.image.specs.Word.{packed};
-ghost use Rattle.image.specs.Node.{nodeOf};
+ghost use Rattle.image.specs.Node.{nodeOf, spanOf};
 
 // Exactly one of nineteen kinds with its own operands: bytes, numbers of nodes, a table, a condition with its truth.
 // A Text has the place of its bytes in the image, and how many they are.
@@ -55,6 +55,36 @@ pub fn node_of(word: u32) -> Node
         16 => Node::Local(a, b),
         17 => Node::If(a / 2, a % 2 == 1),
         _ => Node::On(a / 2, a % 2 == 1, b),
+    }
+}
+
+// Whether a node asks for a single byte, and the least and the greatest that it takes.
+pub struct Span {
+    pub one: bool,
+    pub lo: u8,
+    pub hi: u8,
+}
+
+pub fn span_of(node: Node) -> Span
+    ensures { λ r. ⌜ r ≡ spanOf node ⌝ }
+{
+    match node {
+        Node::Byte(b) => Span {
+            one: true,
+            lo: b,
+            hi: b,
+        },
+        Node::Range(lo, hi) => Span { one: true, lo, hi },
+        Node::Any => Span {
+            one: true,
+            lo: 0,
+            hi: 255,
+        },
+        _ => Span {
+            one: false,
+            lo: 0,
+            hi: 0,
+        },
     }
 }
 

@@ -71,7 +71,7 @@ fn head_of(image: &[u8]) -> Header
 }
 
 // For each table the node of its pattern, put down from 512 on. Got: how many, and the place after them.
-fn fill_patterns(image: &[u8], code: &mut [u32; 523], start: usize, tables: u32, nodes: u32) -> Read
+fn fill_patterns(image: &[u8], code: &mut [u32; 524], start: usize, tables: u32, nodes: u32) -> Read
     requires { ⌜ tables ≤ 8 ⌝ }
     ensures { λ r. ⌜ Fills (λ t. bounded (now (image .entry)) 7 0 nodes) 512 tables start (now (code .entry)) (now (code .exit)) r ⌝ }
 {
@@ -95,7 +95,7 @@ fn fill_patterns(image: &[u8], code: &mut [u32; 523], start: usize, tables: u32,
 // Each node's word, put down at the node's own number. Got: how many, and the place after them.
 fn fill_nodes(
     image: &[u8],
-    code: &mut [u32; 523],
+    code: &mut [u32; 524],
     start: usize,
     tables: u32,
     conditions: u32,
@@ -124,8 +124,8 @@ fn fill_nodes(
 // Checks an image and puts down its nodes and patterns: a node's word at its number, a table's pattern at 512 plus its number. The last three
 // numbers, 520 to 522, keep what they held: the evaluator finds the limits of steps, depth and room there. After a refusal what was put down until
 // then stays.
-pub fn load(image: &[u8], code: &mut [u32; 523]) -> Loaded
-    requires { ⌜ length (now code) ≡ 523 ⌝ }
+pub fn load(image: &[u8], code: &mut [u32; 524]) -> Loaded
+    requires { ⌜ length (now code) ≡ 524 ⌝ }
     ensures { λ r. ⌜ Loads (now (image .entry)) (now (code .entry)) (now (code .exit)) r ⌝ }
 {
     if 16384 < image.len() {
@@ -168,7 +168,7 @@ pub struct Verdict {
 pub fn check(image: &[u8]) -> Verdict
     ensures { λ r. ⌜ r ≡ verdict (readImage (now (image .entry))) ⌝ }
 {
-    let mut code = [0u32; 523];
+    let mut code = [0u32; 524];
     let r = load(image, &mut code);
     match r {
         Loaded::Good(_, _, _, _) => Verdict {

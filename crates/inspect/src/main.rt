@@ -37,7 +37,7 @@ fn inspect(path: &[u8]) {
 }
 
 fn describe(image: &[u8]) {
-    let mut code = [0u32; 523];
+    let mut code = [0u32; 524];
     let found = image::load(image, &mut code);
     match found {
         image::walk::Loaded::Good(tables, conditions, nodes, start) => {
@@ -58,7 +58,7 @@ fn describe(image: &[u8]) {
     }
 }
 
-fn patterns(code: &[u32; 523], tables: u32) {
+fn patterns(code: &[u32; 524], tables: u32) {
     let mut t = 0;
     while t < 8 {
         if t < tables {
@@ -68,7 +68,7 @@ fn patterns(code: &[u32; 523], tables: u32) {
     }
 }
 
-fn nodes_of(image: &[u8], code: &[u32; 523], nodes: u32) {
+fn nodes_of(image: &[u8], code: &[u32; 524], nodes: u32) {
     let mut n = 0;
     while n < 512 {
         if n < nodes {

@@ -6,11 +6,12 @@ use mathlib.Core.List.{List, [], _∷_, _++_, reverse}
 use native.Mathlib.Omega.{arith}
 use lib.Dec.{eqb, leb, ltb}
 use lib.ListN.{length, take, drop, getD, length-take, length-drop, drop-of-length-le}
+use lib.Seq.{drop-cons}
 use borrow.Author.Tests.{le-ltb, lt-ltb, ltb-true, ltb-false, eqb-true, eqb-false, le-leb, leb-true}
 use Rattle.grammar.specs.Expr as e
 use Rattle.grammar.specs.Grammar.{Grammar, tables, size, node, pattern}
-use Rattle.grammar.specs.Sound.{Fits}
-use Rattle.image.specs.Node.{nodeOf, exprOf}
+use Rattle.grammar.specs.Sound.{Fits, Bytes}
+use Rattle.image.specs.Node.{nodeOf, exprOf, spanOf}
 use Rattle.format.specs.Reading.{pick}
 use Rattle.image.specs.declared.node.Node.{Node}
 use Rattle.image.specs.declared.node.Node.the-variants.{Empty, Byte, Range, Any, Text, Sequence, Choice, Star, Not, Call, Def, Match, Is, Isa, Exists, Block, Local, If, On}
@@ -53,6 +54,16 @@ left-test (suc at) (a ∷ x) = go (ltb at (length x)) refl ∙ left-test at x
     go true h = lt-ltb (suc at) (suc (length x)) (omega (arith, ltb-true at (length x) h)) ∙ sym h
     go false h = le-ltb (suc at) (suc (length x)) (omega (arith, ltb-false at (length x) h)) ∙ sym h
 
+-- Where there are bytes alone, any byte is the range of all bytes.
+pub any-test : (at : ℕ) (x : List ℕ) → Bytes x → inRange 0 255 (drop at x) ≡ ltb at (length x)
+any-test at x b = go (ltb at (length x)) refl
+  where
+    go : (t : Bool) → ltb at (length x) ≡ t → inRange 0 255 (drop at x) ≡ t
+    go true h =
+        ap (inRange 0 255) (drop-cons x at 0 (ltb-true at (length x) h))
+        ∙ rw (le-leb 0 (getD x at 0) (omega arith), le-leb (getD x at 0) 255 (b at))
+    go false h = ap (inRange 0 255) (drop-of-length-le x {i = at} (ltb-false at (length x) h))
+
 -- The truth of a condition is the named one.
 pub agrees : (w : Bool) {r v : Bool} → r ≡ v → Bool·beq r w ≡ agree v w
 agrees w {v = v} e = ap (λ r. Bool·beq r w) e ∙ go v w
@@ -62,6 +73,9 @@ agrees w {v = v} e = ap (λ r. Bool·beq r w) e ∙ go v w
     go true false = refl
     go false true = refl
     go false false = refl
+
+differ : false ≡ true → ⊥
+differ e = let z : _≡_ {A = ℕ} 0 1 = cc in omega (arith, z)
 
 -- ## A table's list
 
@@ -269,6 +283,29 @@ module _ {code image input slots : List ℕ} {left number at held spent deepest 
         rw (q, left-test at input)
         (leaf Any h (passIf (some (drop at input)) (at + 1) σ)
         (tells-any g input B D R left spent deepest (E .more) (E .ready .deep) (E .step) (envOf state) at σ))
+
+    -- The kinds that ask for a single byte.
+    pub says-one : (k : Node) {ok : Bool} → Kind k → spanOf k .one ≡ true → ok ≡ inRange (spanOf k .lo) (spanOf k .hi) (drop at input)
+        → Said (came (passIf ok (at + 1) σ) steps depth)
+    says-one (Byte b) h o q = says-byte h q
+    says-one (Range lo hi) h o q = says-range h q
+    says-one Any h o q = says-any h (q ∙ any-test at input (E .ready .bytes))
+    says-one Empty h o q = absurd (differ o)
+    says-one (Text p c) h o q = absurd (differ o)
+    says-one (Sequence a b) h o q = absurd (differ o)
+    says-one (Choice a b) h o q = absurd (differ o)
+    says-one (Star a) h o q = absurd (differ o)
+    says-one (Not a) h o q = absurd (differ o)
+    says-one (Call a) h o q = absurd (differ o)
+    says-one (Def t) h o q = absurd (differ o)
+    says-one (Match t) h o q = absurd (differ o)
+    says-one (Is t) h o q = absurd (differ o)
+    says-one (Isa t) h o q = absurd (differ o)
+    says-one (Exists t) h o q = absurd (differ o)
+    says-one (Block t a) h o q = absurd (differ o)
+    says-one (Local t a) h o q = absurd (differ o)
+    says-one (If c w) h o q = absurd (differ o)
+    says-one (On c w a) h o q = absurd (differ o)
 
     pub says-text : {place count : ℕ} {ok : Bool} → Kind (Text place count) → ok ≡ begins (take count (drop place image)) (drop at input)
         → Said (came (passIf ok (at + count) σ) steps depth)

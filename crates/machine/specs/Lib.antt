@@ -3,6 +3,7 @@ pub mod Told
 pub mod ToldLaws
 pub mod Ready
 pub mod ReadyLaws
+pub mod StartLaws
 pub mod DoneLaws
 pub mod EntryLaws
 pub mod StarLaws

@@ -2,10 +2,10 @@
 use Prim.Native.Nat.{ℕ, _+_, _-_, _*_, _≤_, _<_}
 use mathlib.Core.Path.{_≡_}
 use mathlib.Core.List.{List, [], List·Memᴰ}
-use lib.ListN.{length, getD}
+use lib.ListN.{length, take, getD}
 use Rattle.grammar.specs.Expr.{Expr}
 use Rattle.grammar.specs.Grammar.{Grammar, tables, size, node, pattern}
-use Rattle.grammar.specs.Sound.{Sound}
+use Rattle.grammar.specs.Sound.{Sound, Bytes}
 use Rattle.format.specs.Image.{Checked, good, refused, readImage}
 use Rattle.image.specs.Node.{nodeOf, exprOf, InImage}
 use Rattle.meaning.specs.State.{Symbol, State as Symbols}
@@ -14,7 +14,7 @@ use Rattle.meaning.specs.Inside.{Part}
 use Rattle.parts.specs.declared.outcome.Outcome.{Outcome}
 use Rattle.parts.specs.declared.outcome.Outcome.the-variants.{Passed, Failed, Refused}
 use Rattle.kinds.specs.declared.state.State.{State}
-use Rattle.parts.specs.Packed.{openedOf}
+use Rattle.parts.specs.Packed.{atOf, heldOf, stepsOf, depthOf, openedOf}
 use Rattle.parts.specs.Slots.{symbols, Below}
 use Rattle.kinds.specs.Held.{envOf}
 use Rattle.machine.specs.Told.{Told, came, stopped, tells, rounding}
@@ -27,7 +27,7 @@ ofChecked (refused n p) = record { conditions = 0; start = 0; patterns = []; nod
 unfoldable pub grammarOf : (image : List ℕ) → Grammar
 grammarOf image = ofChecked (readImage image)
 
--- The limits stand behind the nodes and patterns: steps, depth, room.
+-- The limits stand behind the nodes and patterns: steps, depth, room. Behind them stands how many of the bytes that are lent are the image.
 abbrev pub stepLimit : (code : List ℕ) → ℕ
 stepLimit code = getD code 520 0
 
@@ -37,6 +37,9 @@ depthLimit code = getD code 521 0
 abbrev pub roomLimit : (code : List ℕ) → ℕ
 roomLimit code = getD code 522 0
 
+unfoldable pub imageOf : (code bytes : List ℕ) → List ℕ
+imageOf code bytes = take (getD code 523 0) bytes
+
 -- The array holds the nodes and patterns of a sound grammar.
 pub record Coded (image code : List ℕ) (g : Grammar) : Type 0 where
   pub sound : Sound g
@@ -44,14 +47,15 @@ pub record Coded (image code : List ℕ) (g : Grammar) : Type 0 where
   pub texts : (n : ℕ) → n < size g → InImage image (nodeOf (getD code n 0))
   pub patterns : (t : ℕ) → t < tables g → getD code (512 + t) 0 ≡ pattern g t
 
--- Asked: the limits are within their ranges, exactly as many slots as they say are lent, the place is in the input, the tally is within
+-- Asked: the limits are within their ranges, at least as many slots as they say are lent, the place is in the input, the tally is within
 -- the limits and the depth it names is at least the depth here, and every held symbol is a part of the input.
 pub record Ready (code image input slots : List ℕ) (left at held steps depth : ℕ) : Type 0 where
   pub coded : Coded image code (grammarOf image)
   pub few-steps : stepLimit code ≤ 1000000
   pub small-depth : depthLimit code ≤ 256
   pub small-room : roomLimit code ≤ 256
-  pub lent : length slots ≡ roomLimit code * 3
+  pub lent : roomLimit code * 3 ≤ length slots
+  pub bytes : Bytes input
   pub short : length input ≤ 65535
   pub place : at ≤ length input
   pub room : held ≤ roomLimit code
@@ -84,3 +88,24 @@ telling code image input state left steps depth e p σ =
 abbrev pub starring : (code image input : List ℕ) (state : State) (left steps depth : ℕ) → ℕ → ℕ → Symbols → Told
 starring code image input state left steps depth a p σ =
     rounding (grammarOf image) input (stepLimit code) (depthLimit code) (roomLimit code) left steps depth (envOf state) a p σ
+
+-- ## With the image in its lent bytes, and what an expression starts from in one number
+
+abbrev pub NodeOf : (code bytes : List ℕ) → ℕ → Type 0
+NodeOf code bytes n = Node (imageOf code bytes) n
+
+abbrev pub Starts : (code bytes input slots : List ℕ) (left from : ℕ) → Type 0
+Starts code bytes input slots left from =
+    Ready code (imageOf code bytes) input slots left (atOf from) (heldOf from) (stepsOf from) (depthOf from) × (getD code 523 0 ≤ length bytes)
+
+abbrev pub running : (code bytes input : List ℕ) (state : State) (left steps depth n : ℕ) → ℕ → Symbols → Told
+running code bytes input state left steps depth n p σ =
+    telling code (imageOf code bytes) input state left steps depth (node (grammarOf (imageOf code bytes)) n) p σ
+
+abbrev pub saying : (code bytes input : List ℕ) (state : State) (slots : List ℕ) (left from n : ℕ) → Told
+saying code bytes input state slots left from n =
+    running code bytes input state left (stepsOf from) (depthOf from) n (atOf from) (symbols (heldOf from) slots)
+
+abbrev pub repeating : (code bytes input : List ℕ) (state : State) (slots : List ℕ) (left from a : ℕ) → Told
+repeating code bytes input state slots left from a =
+    starring code (imageOf code bytes) input state left (stepsOf from) (depthOf from) a (atOf from) (symbols (heldOf from) slots)

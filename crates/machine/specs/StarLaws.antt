@@ -14,7 +14,7 @@ use Rattle.meaning.specs.Outcome.{pass}
 use Rattle.parts.specs.declared.outcome.Outcome.{Outcome}
 use Rattle.parts.specs.declared.outcome.Outcome.the-variants.{Passed, Failed, Refused}
 use Rattle.kinds.specs.declared.state.State.{State}
-use Rattle.parts.specs.Packed.{openedOf}
+use Rattle.parts.specs.Packed.{atOf, heldOf, stepsOf, depthOf, openedOf}
 use Rattle.parts.specs.Slots.{symbols, Below}
 use Rattle.kinds.specs.Held.{envOf}
 use Rattle.kinds.specs.Turned.{Bounds}
@@ -22,6 +22,7 @@ use Rattle.kinds.specs.TurnedLaws.{Stops, at-refused, Stays, on-refused}
 use Rattle.machine.specs.Told.{Told, came, stopped, afterRound, tells, rounding}
 use Rattle.machine.specs.ToldLaws.{tells-no-steps, tells-star}
 use Rattle.machine.specs.Ready.{grammarOf, stepLimit, depthLimit, roomLimit, Ready, readBack, Done, telling, starring}
+use Rattle.machine.specs.StartLaws.{Has}
 use Rattle.machine.specs.ReadyLaws.{kept-below, below-then, below-same, moved, bounds-of, ready-next}
 
 module _ (code image input before : List ℕ) (state : State) (left a at held s d : ℕ) where
@@ -37,6 +38,11 @@ module _ (code image input before : List ℕ) (state : State) (left a at held s 
 
   pub rounds-start : Ready code image input before left at held s d → Rounds before at held s d
   rounds-start r = record { ready = r; same = refl; frame = below-same held before; more = omega arith }
+
+  -- The next starts from one number.
+  pub rounds-from : {now : List ℕ} {next here stored charged reached : ℕ} → Has next here stored charged reached → Rounds now here stored charged reached
+      → Rounds now (atOf next) (heldOf next) (stepsOf next) (depthOf next)
+  rounds-from h r = rw (sym (h .place), sym (h .names), sym (h .spent), sym (h .deepest)) r
 
   module _ {now after : List ℕ} {here stored charged reached r : ℕ} (inv : Rounds now here stored charged reached)
       (done : Done stored now after r (telling code image input state left charged reached (node (grammarOf image) a) here (symbols stored now))) where

@@ -1,15 +1,16 @@
 // The evaluator: a node is run by running the nodes inside it, with one less of depth left at each call.
 //
-// The tally of steps and greatest depth goes into each call, and comes back in its outcome; `entered` charges it, and nothing else does. `held`
-// names the symbols that were there on entering; nothing below them is ever written, so what fails needs no undoing.
-ghost use mathlib.Core.Path.{_≡_};
-ghost use Prim.Native.Nat.{_+_, _≤_};
-ghost use Rattle.grammar.specs.Grammar.{node as Grammar·node};
+// Every node is entered through `eval`. What an expression starts from, and what it passes to, is one number: the place, the symbols held, and the tally
+// of steps and greatest depth. `entered` charges the tally, and nothing else does. Nothing below the symbols held on entering is ever written, so
+// what fails needs no undoing.
+ghost use Prim.Native.Nat.{_+_, _<_, _≤_};
+ghost use Rattle.parts.specs.Packed.{atOf, heldOf, stepsOf, depthOf};
 ghost use Rattle.parts.specs.Slots.{symbols};
 ghost use Rattle.machine.specs.Told.{andThen, orElse};
-ghost use Rattle.machine.specs.Ready.{grammarOf, depthLimit, Ready, Node as Numbered, Done, telling, starring};
+ghost use Rattle.machine.specs.Ready.{stepLimit, depthLimit, Starts, NodeOf, Done, running, saying, repeating};
 use image::node::Node;
 use image::node::node_of;
+use image::node::span_of;
 use kinds::inside::again;
 use kinds::inside::closed;
 use kinds::inside::defined;
@@ -26,44 +27,82 @@ use kinds::state::with_truth;
 use parts::bytes::begins_with;
 use parts::bytes::within;
 use parts::outcome::Outcome;
+use parts::outcome::at_of;
+use parts::outcome::depth_of;
 use parts::outcome::failed;
+use parts::outcome::held_of;
+use parts::outcome::onward;
 use parts::outcome::opened;
 use parts::outcome::passed;
 use parts::outcome::refused;
+use parts::outcome::steps_of;
+use parts::outcome::stopped;
 use parts::slots::latest;
 use tally::entered;
 
-// Runs a node. The array holds a word for each node, each table's pattern, and the limits of steps, depth and room.
+// Enters a node and runs it. The array `code` holds a word for each node, each table's pattern, the limits of steps, depth and room, and how many of the
+// bytes lent are the image's. A single byte is looked at on the spot, if its depth was reached before; all else is run by a call.
 pub fn eval(
-    code: &[u32; 523],
-    image: &[u8],
+    code: &[u32; 524],
+    image: &[u8; 16384],
     input: &[u8],
-    slots: &mut [u32],
+    slots: &mut [u32; 768],
     state: State,
     left: u32,
     node: u32,
-    at: u32,
-    held: u32,
-    spent: u32,
-    deepest: u32,
+    from: u64,
 ) -> u64
-    requires { ⌜ Ready (now code) (now image) (now input) (now slots) left at held spent deepest × Numbered (now image) node ⌝ }
-    ensures { λ r. ⌜ Done held (now (slots .entry)) (now (slots .exit)) r
-        (telling (now (code .entry)) (now (image .entry)) (now (input .entry)) state left spent deepest (Grammar·node (grammarOf (now (image .entry))) node) at (symbols held (now (slots .entry)))) ⌝ }
+    requires { ⌜ Starts (now code) (now image) (now input) (now slots) left from × NodeOf (now code) (now image) node ⌝ }
+    ensures { λ r. ⌜ Done (heldOf from) (now (slots .entry)) (now (slots .exit)) r
+        (saying (now (code .entry)) (now (image .entry)) (now (input .entry)) state (now (slots .entry)) left from node) ⌝ }
 {
+    let spent = steps_of(from);
     if code[520] <= spent {
-        return refused(12, at, spent, deepest);
+        return stopped(12, from);
     }
     if left == 0 {
-        return refused(13, at, spent, deepest);
+        return stopped(13, from);
     }
+    let kind = node_of(code[node as usize]);
+    let span = span_of(kind);
+    if span.one {
+        let deepest = depth_of(from);
+        if code[521] - (left - 1) <= deepest {
+            let at = at_of(from);
+            let ok = within(input, at as usize, span.lo, span.hi);
+            let tally = entered(spent, deepest, 0);
+            let now = passed(at, held_of(from), tally.steps, tally.depth);
+            return onward(ok, now);
+        }
+    }
+    inside(code, image, input, slots, state, left, node, from)
+}
+
+// Runs a node of any kind. That a step and a depth are left is asked; the tally is not charged yet.
+pub fn inside(
+    code: &[u32; 524],
+    image: &[u8; 16384],
+    input: &[u8],
+    slots: &mut [u32; 768],
+    state: State,
+    left: u32,
+    node: u32,
+    from: u64,
+) -> u64
+    requires { ⌜ Starts (now code) (now image) (now input) (now slots) left from × NodeOf (now code) (now image) node × (stepsOf from < stepLimit (now code)) × (1 ≤ left) ⌝ }
+    ensures { λ r. ⌜ Done (heldOf from) (now (slots .entry)) (now (slots .exit)) r
+        (saying (now (code .entry)) (now (image .entry)) (now (input .entry)) state (now (slots .entry)) left from node) ⌝ }
+{
     let below = left - 1;
-    let tally = entered(spent, deepest, code[521] - below);
+    let at = at_of(from);
+    let held = held_of(from);
+    let tally = entered(steps_of(from), depth_of(from), code[521] - below);
     let steps = tally.steps;
     let depth = tally.depth;
+    let now = passed(at, held, steps, depth);
     let kind = node_of(code[node as usize]);
     match kind {
-        Node::Empty => passed(at, held, steps, depth),
+        Node::Empty => now,
         Node::Byte(b) => given(within(input, at as usize, b, b), at + 1, held, steps, depth),
         Node::Range(lo, hi) => given(
             within(input, at as usize, lo, hi),
@@ -80,95 +119,17 @@ pub fn eval(
             steps,
             depth,
         ),
-        Node::Sequence(a, b) => {
-            sequence(
-                code,
-                image,
-                input,
-                slots,
-                state,
-                below,
-                a,
-                b,
-                at,
-                held,
-                steps,
-                depth,
-            )
-        }
-        Node::Choice(a, b) => {
-            choice(
-                code,
-                image,
-                input,
-                slots,
-                state,
-                below,
-                a,
-                b,
-                at,
-                held,
-                steps,
-                depth,
-            )
-        }
-        Node::Star(a) => star(
-            code,
-            image,
-            input,
-            slots,
-            state,
-            below,
-            a,
-            at,
-            held,
-            steps,
-            depth,
-        ),
+        Node::Sequence(a, b) => sequence(code, image, input, slots, state, below, a, b, now),
+        Node::Choice(a, b) => choice(code, image, input, slots, state, below, a, b, now),
+        Node::Star(a) => star(code, image, input, slots, state, below, a, now),
         Node::Not(a) => {
-            let r = eval(
-                code,
-                image,
-                input,
-                slots,
-                state,
-                below,
-                a,
-                at,
-                held,
-                steps,
-                depth,
-            );
+            let r = eval(code, image, input, slots, state, below, a, now);
             negated(at, held, r)
         }
-        Node::Call(a) => eval(
-            code,
-            image,
-            input,
-            slots,
-            state,
-            below,
-            a,
-            at,
-            held,
-            steps,
-            depth,
-        ),
+        Node::Call(a) => eval(code, image, input, slots, state, below, a, now),
         Node::Def(t) => {
             let pattern = code[(512 + t) as usize];
-            let r = eval(
-                code,
-                image,
-                input,
-                slots,
-                state,
-                below,
-                pattern,
-                at,
-                held,
-                steps,
-                depth,
-            );
+            let r = eval(code, image, input, slots, state, below, pattern, now);
             defined(code[522], slots, t, at, held, r)
         }
         Node::Match(t) => {
@@ -184,19 +145,7 @@ pub fn eval(
                 return failed(steps, depth);
             }
             let pattern = code[(512 + t) as usize];
-            let r = eval(
-                code,
-                image,
-                input,
-                slots,
-                state,
-                below,
-                pattern,
-                at,
-                held,
-                steps,
-                depth,
-            );
+            let r = eval(code, image, input, slots, state, below, pattern, now);
             is_latest(input, slots, seen - 1, at, held, r)
         }
         Node::Isa(t) => {
@@ -206,19 +155,7 @@ pub fn eval(
                 return failed(steps, depth);
             }
             let pattern = code[(512 + t) as usize];
-            let r = eval(
-                code,
-                image,
-                input,
-                slots,
-                state,
-                below,
-                pattern,
-                at,
-                held,
-                steps,
-                depth,
-            );
+            let r = eval(code, image, input, slots, state, below, pattern, now);
             is_some(input, slots, t, low, at, held, r)
         }
         Node::Exists(t) => {
@@ -226,54 +163,18 @@ pub fn eval(
             given(0 < seen, at, held, steps, depth)
         }
         Node::Block(t, a) => {
-            let r = eval(
-                code,
-                image,
-                input,
-                slots,
-                state,
-                below,
-                a,
-                at,
-                held,
-                steps,
-                depth,
-            );
+            let r = eval(code, image, input, slots, state, below, a, now);
             closed(slots, t, held, r)
         }
         Node::Local(t, a) => {
             let hidden = with_floor(state, t, held);
-            let r = eval(
-                code,
-                image,
-                input,
-                slots,
-                hidden,
-                below,
-                a,
-                at,
-                held,
-                steps,
-                depth,
-            );
+            let r = eval(code, image, input, slots, hidden, below, a, now);
             closed(slots, t, held, r)
         }
         Node::If(c, w) => given(truth(state, c) == w, at, held, steps, depth),
         Node::On(c, w, a) => {
             let switched = with_truth(state, c, w);
-            let r = eval(
-                code,
-                image,
-                input,
-                slots,
-                switched,
-                below,
-                a,
-                at,
-                held,
-                steps,
-                depth,
-            );
+            let r = eval(code, image, input, slots, switched, below, a, now);
             restored(held, r)
         }
     }
@@ -281,95 +182,53 @@ pub fn eval(
 
 // A, then b from where a came to.
 fn sequence(
-    code: &[u32; 523],
-    image: &[u8],
+    code: &[u32; 524],
+    image: &[u8; 16384],
     input: &[u8],
-    slots: &mut [u32],
+    slots: &mut [u32; 768],
     state: State,
     left: u32,
     a: u32,
     b: u32,
-    at: u32,
-    held: u32,
-    steps: u32,
-    depth: u32,
+    from: u64,
 ) -> u64
-    requires { ⌜ Ready (now code) (now image) (now input) (now slots) left at held steps depth × Numbered (now image) a × Numbered (now image) b ⌝ }
-    ensures { λ r. ⌜ Done held (now (slots .entry)) (now (slots .exit)) r
-        (andThen (telling (now (code .entry)) (now (image .entry)) (now (input .entry)) state left steps depth (Grammar·node (grammarOf (now (image .entry))) a) at (symbols held (now (slots .entry))))
-        (λ q τ s d. telling (now (code .entry)) (now (image .entry)) (now (input .entry)) state left s d (Grammar·node (grammarOf (now (image .entry))) b) q τ)) ⌝ }
+    requires { ⌜ Starts (now code) (now image) (now input) (now slots) left from × NodeOf (now code) (now image) a × NodeOf (now code) (now image) b ⌝ }
+    ensures { λ r. ⌜ Done (heldOf from) (now (slots .entry)) (now (slots .exit)) r
+        (andThen (saying (now (code .entry)) (now (image .entry)) (now (input .entry)) state (now (slots .entry)) left from a)
+        (λ q τ s d. running (now (code .entry)) (now (image .entry)) (now (input .entry)) state left s d b q τ)) ⌝ }
 {
-    let r = eval(
-        code,
-        image,
-        input,
-        slots,
-        state,
-        left,
-        a,
-        at,
-        held,
-        steps,
-        depth,
-    );
+    let r = eval(code, image, input, slots, state, left, a, from);
     let first = opened(r);
     let Outcome::Passed {
-        at: next,
-        held: more,
-        steps: spent,
-        depth: deepest,
+        at: _,
+        held: _,
+        steps: _,
+        depth: _,
     } = first
     else {
         return r;
     };
-    eval(
-        code,
-        image,
-        input,
-        slots,
-        state,
-        left,
-        b,
-        next,
-        more,
-        spent,
-        deepest,
-    )
+    eval(code, image, input, slots, state, left, b, r)
 }
 
 // A; or, where a fails, b from the same place with the same symbols.
 fn choice(
-    code: &[u32; 523],
-    image: &[u8],
+    code: &[u32; 524],
+    image: &[u8; 16384],
     input: &[u8],
-    slots: &mut [u32],
+    slots: &mut [u32; 768],
     state: State,
     left: u32,
     a: u32,
     b: u32,
-    at: u32,
-    held: u32,
-    steps: u32,
-    depth: u32,
+    from: u64,
 ) -> u64
-    requires { ⌜ Ready (now code) (now image) (now input) (now slots) left at held steps depth × Numbered (now image) a × Numbered (now image) b ⌝ }
-    ensures { λ r. ⌜ Done held (now (slots .entry)) (now (slots .exit)) r
-        (orElse (telling (now (code .entry)) (now (image .entry)) (now (input .entry)) state left steps depth (Grammar·node (grammarOf (now (image .entry))) a) at (symbols held (now (slots .entry))))
-        (λ s d. telling (now (code .entry)) (now (image .entry)) (now (input .entry)) state left s d (Grammar·node (grammarOf (now (image .entry))) b) at (symbols held (now (slots .entry))))) ⌝ }
+    requires { ⌜ Starts (now code) (now image) (now input) (now slots) left from × NodeOf (now code) (now image) a × NodeOf (now code) (now image) b ⌝ }
+    ensures { λ r. ⌜ Done (heldOf from) (now (slots .entry)) (now (slots .exit)) r
+        (orElse (saying (now (code .entry)) (now (image .entry)) (now (input .entry)) state (now (slots .entry)) left from a)
+        (λ s d. running (now (code .entry)) (now (image .entry)) (now (input .entry)) state left s d b (atOf from) (symbols (heldOf from) (now (slots .entry))))) ⌝ }
 {
-    let r = eval(
-        code,
-        image,
-        input,
-        slots,
-        state,
-        left,
-        a,
-        at,
-        held,
-        steps,
-        depth,
-    );
+    let r = eval(code, image, input, slots, state, left, a, from);
     let first = opened(r);
     let Outcome::Failed {
         steps: lost,
@@ -378,58 +237,30 @@ fn choice(
     else {
         return r;
     };
-    eval(
-        code,
-        image,
-        input,
-        slots,
-        state,
-        left,
-        b,
-        at,
-        held,
-        lost,
-        reached,
-    )
+    let back = passed(at_of(from), held_of(from), lost, reached);
+    eval(code, image, input, slots, state, left, b, back)
 }
 
 // Rounds of a until it fails, of which the first is charged already; the rounds that passed are kept.
 fn star(
-    code: &[u32; 523],
-    image: &[u8],
+    code: &[u32; 524],
+    image: &[u8; 16384],
     input: &[u8],
-    slots: &mut [u32],
+    slots: &mut [u32; 768],
     state: State,
     left: u32,
     a: u32,
-    at: u32,
-    held: u32,
-    steps: u32,
-    depth: u32,
+    from: u64,
 ) -> u64
-    requires { ⌜ Ready (now code) (now image) (now input) (now slots) left at held steps depth × Numbered (now image) a × (left + 1 ≤ depthLimit (now code)) ⌝ }
-    ensures { λ r. ⌜ Done held (now (slots .entry)) (now (slots .exit)) r
-        (starring (now (code .entry)) (now (image .entry)) (now (input .entry)) state left steps depth a at (symbols held (now (slots .entry)))) ⌝ }
+    requires { ⌜ Starts (now code) (now image) (now input) (now slots) left from × NodeOf (now code) (now image) a × (left + 1 ≤ depthLimit (now code)) ⌝ }
+    ensures { λ r. ⌜ Done (heldOf from) (now (slots .entry)) (now (slots .exit)) r
+        (repeating (now (code .entry)) (now (image .entry)) (now (input .entry)) state (now (slots .entry)) left from a) ⌝ }
 {
-    let mut here = at;
-    let mut stored = held;
-    let mut charged = steps;
-    let mut reached = depth;
+    let mut here = from;
     loop {
-        let r = eval(
-            code,
-            image,
-            input,
-            slots,
-            state,
-            left,
-            a,
-            here,
-            stored,
-            charged,
-            reached,
-        );
+        let r = eval(code, image, input, slots, state, left, a, here);
         let round = opened(r);
+        let at = at_of(here);
         let Outcome::Passed {
             at: next,
             held: more,
@@ -444,18 +275,15 @@ fn star(
             else {
                 return r;
             };
-            return passed(here, stored, spent, deepest);
+            return passed(at, held_of(here), spent, deepest);
         };
-        if next <= here {
-            return refused(15, here, spent, deepest);
+        if next <= at {
+            return refused(15, at, spent, deepest);
         }
         if code[520] <= spent {
             return refused(12, next, spent, deepest);
         }
         let tally = entered(spent, deepest, 0);
-        here = next;
-        stored = more;
-        charged = tally.steps;
-        reached = tally.depth;
+        here = passed(next, more, tally.steps, tally.depth);
     }
 }

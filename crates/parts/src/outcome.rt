@@ -1,7 +1,9 @@
 // What an expression comes to, in one number.
 ghost use mathlib.Core.Path.{_≡_};
-ghost use Prim.Native.Nat.{_≤_, _<_};
-ghost use Rattle.parts.specs.Packed.{packed, openedOf};
+ghost use mathlib.Core.Bool.{true};
+ghost use Prim.Native.Nat.{_+_, _≤_, _<_};
+ghost use Rattle.format.specs.Reading.{pick};
+ghost use Rattle.parts.specs.Packed.{packed, atOf, heldOf, stepsOf, depthOf, openedOf};
 
 // Passed, at a place and with so many symbols held; failed; or refused, with a number and a place. With the steps spent and the greatest
 // depth entered so far.
@@ -24,7 +26,7 @@ pub enum Outcome {
     },
 }
 
-// The parts of an outcome in one number: place in 16 bits, symbols held in 9, depth in 9, kind in 4, steps above.
+// The parts of an outcome in one number: place in 16 bits, symbols held in 9, depth in 9, steps in 26, kind above.
 fn shut(kind: u32, at: u32, held: u32, steps: u32, depth: u32) -> u64
     requires { ⌜ (kind < 16) × (at ≤ 65535) × (held ≤ 256) × (steps ≤ 1000000) × (depth ≤ 256) ⌝ }
     ensures { λ r. ⌜ r ≡ packed kind at held steps depth ⌝ }
@@ -32,8 +34,8 @@ fn shut(kind: u32, at: u32, held: u32, steps: u32, depth: u32) -> u64
     (at as u64)
         + (held as u64) * 65536
         + (depth as u64) * 33554432
-        + (kind as u64) * 17179869184
-        + (steps as u64) * 274877906944
+        + (steps as u64) * 17179869184
+        + (kind as u64) * 1152921504606846976
 }
 
 pub fn passed(at: u32, held: u32, steps: u32, depth: u32) -> u64
@@ -63,23 +65,66 @@ pub fn opened(r: u64) -> Outcome
 {
     let at = (r % 65536) as u32;
     let depth = (r / 33554432 % 512) as u32;
-    let kind = (r / 17179869184 % 16) as u32;
-    let steps = (r / 274877906944) as u32;
-    if kind == 0 {
+    if r < 1152921504606846976 {
         return Outcome::Passed {
             at,
             held: (r / 65536 % 512) as u32,
-            steps,
+            steps: (r / 17179869184) as u32,
             depth,
         };
     }
-    if kind == 1 {
+    let steps = (r / 17179869184 % 67108864) as u32;
+    if r < 2305843009213693952 {
         return Outcome::Failed { steps, depth };
     }
     Outcome::Refused {
-        number: kind,
+        number: (r / 1152921504606846976) as u32,
         place: at,
         steps,
         depth,
     }
+}
+
+// A passed outcome is the number that the next expression starts from. What it has of each part:
+pub fn at_of(from: u64) -> u32
+    ensures { λ r. ⌜ r ≡ atOf from ⌝ }
+{
+    (from % 65536) as u32
+}
+
+pub fn held_of(from: u64) -> u32
+    ensures { λ r. ⌜ r ≡ heldOf from ⌝ }
+{
+    (from / 65536 % 512) as u32
+}
+
+pub fn depth_of(from: u64) -> u32
+    ensures { λ r. ⌜ r ≡ depthOf from ⌝ }
+{
+    (from / 33554432 % 512) as u32
+}
+
+pub fn steps_of(from: u64) -> u32
+    ensures { λ r. ⌜ r ≡ stepsOf from ⌝ }
+{
+    (from / 17179869184) as u32
+}
+
+// Refused where an expression would have started. The symbols held stay in the number, and no refusal is opened with them.
+pub fn stopped(number: u32, from: u64) -> u64
+    requires { ⌜ (12 ≤ number) × (number ≤ 15) × (stepsOf from ≤ 1000000) ⌝ }
+    ensures { λ r. ⌜ openedOf r ≡ Outcome.Refused number (atOf from) (stepsOf from) (depthOf from) ⌝ }
+{
+    from + (number as u64) * 1152921504606846976
+}
+
+// One byte further, with what else there is as it is; or failed.
+pub fn onward(ok: bool, from: u64) -> u64
+    requires { ⌜ (ok ≡ true → atOf from + 1 ≤ 65535) × (stepsOf from ≤ 1000000) ⌝ }
+    ensures { λ r. ⌜ openedOf r ≡ pick ok (Outcome.Passed (atOf from + 1) (heldOf from) (stepsOf from) (depthOf from)) (Outcome.Failed (stepsOf from) (depthOf from)) ⌝ }
+{
+    if ok {
+        return from + 1;
+    }
+    from / 33554432 * 33554432 + 1152921504606846976
 }

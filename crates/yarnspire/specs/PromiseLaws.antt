@@ -155,7 +155,7 @@ grammar-is image g e = ap ofChecked e
 -- ## The run
 
 module _ {image : List ℕ} {g : Grammar} (e : readImage image ≡ good g) (bytes : Bytes image) {before array : List ℕ} {r : Loaded} (loads : Loads image before array r)
-    (B D R : ℕ) (long : length array ≡ 523) where
+    (B D R : ℕ) (long : length array ≡ 524) where
   abbrev limited : List ℕ
   limited = set (set (set array 520 B) 521 D) 522 R
 

@@ -55,7 +55,7 @@ pub fn recognise(
 ) -> Answer
     ensures { λ r. ⌜ Recognised (now (image .entry)) (now (input .entry)) steps depth room (now (slots .entry)) (now (slots .exit)) r ⌝ }
 {
-    let mut code = [0u32; 523];
+    let mut code = [0u32; 524];
     let loaded = load(image, &mut code);
     let start = match loaded {
         Loaded::Good(_, _, _, start) => start,

@@ -79,7 +79,7 @@ fn ended(slots: &mut [u32], r: u64) -> Answer
 
 // Runs the start node from the input's start, with every condition true and no symbol held, over exactly the slots that the room allows.
 pub(crate) fn run(
-    code: &[u32; 523],
+    code: &[u32; 524],
     image: &[u8],
     input: &[u8],
     slots: &mut [u32],

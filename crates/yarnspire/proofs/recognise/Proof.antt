@@ -113,7 +113,7 @@ run-requires c κs =
       slots-enough = omega (arith, c .before .before .if3 .left);
     } in
     let L = c .before .before .before .before .before .before .before .before .before .load .ensures in
-    run-asks (w .1) (bytes (c .before .before .before .before .before .before .before .before .before .before .before .before .before)) L (a .steps) (a .depth) (a .room) (ap length (L .array) ∙ filled-length (a .image .now) (replicate 523 0)) E (w .2)
+    run-asks (w .1) (bytes (c .before .before .before .before .before .before .before .before .before .before .before .before .before)) L (a .steps) (a .depth) (a .room) (ap length (L .array) ∙ filled-length (a .image .now) (replicate 524 0)) E (w .2)
 
 same-length : tie.Need-same-length
 same-length c = search needs
@@ -129,7 +129,7 @@ returns-5 c =
       slots-enough = omega (arith, c .before .before .before .before .before .if3 .left);
     } in
     let L = c .before .before .before .before .before .before .before .before .before .before .before .before .load .ensures in
-    run-gives (w .1) (bytes (c .before .before .before .before .before .before .before .before .before .before .before .before .before .before .before .before)) L (a .steps) (a .depth) (a .room) (ap length (L .array) ∙ filled-length (a .image .now) (replicate 523 0)) E (c .before .before .run .ensures)
+    run-gives (w .1) (bytes (c .before .before .before .before .before .before .before .before .before .before .before .before .before .before .before .before)) L (a .steps) (a .depth) (a .room) (ap length (L .array) ∙ filled-length (a .image .now) (replicate 524 0)) E (c .before .before .run .ensures)
 
 pub recognise-spec : {M : Type 1} → statement M
 recognise-spec =

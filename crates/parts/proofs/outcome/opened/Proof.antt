@@ -1,7 +1,7 @@
--- `opened` meets its promise: by the kind. Assumes nothing.
-use Prim.Native.Nat.{_/_, _%_}
-use borrow.Author.Tests.{eq-eqb, ne-eqb}
-use Rattle.parts.specs.Packed.{openedOf}
+-- `opened` meets its promise: by the number's size. Assumes nothing.
+use borrow.Author.Tests.{lt-ltb, le-ltb}
+use native.Mathlib.Omega.{arith}
+use Rattle.parts.specs.Packed.{atOf, heldOf, stepsOf, depthOf, openedOf}
 use borrow.Author.Needs.{needs}
 use Rattle.parts.proofs.outcome.opened.Statement.{statement}
 use Rattle.parts.proofs.outcome.opened.Tie as tie
@@ -12,36 +12,35 @@ cast-at c = search needs
 cast-depth : tie.Need-cast-depth
 cast-depth c = search needs
 
-cast-kind : tie.Need-cast-kind
-cast-kind c = search needs
+cast-t10 : tie.Need-cast-t10
+cast-t10 c = search needs
+
+cast-t12 : tie.Need-cast-t12
+cast-t12 c = search needs
+
+returns : tie.Need-returns
+unfolding openedOf atOf heldOf stepsOf depthOf
+returns c = rw (lt-ltb (c .before .args .r) 1152921504606846976 (c .if1 .taken))
 
 cast-steps : tie.Need-cast-steps
 cast-steps c = search needs
 
-cast-t11 : tie.Need-cast-t11
-cast-t11 c = search needs
-
-returns : tie.Need-returns
-unfolding openedOf
-returns c = rw (eq-eqb (c .before .args .r / 17179869184 % 16) 0 (c .if1 .taken))
-
 returns-2 : tie.Need-returns-2
-unfolding openedOf
+unfolding openedOf atOf heldOf stepsOf depthOf
 returns-2 c =
-    rw (
-      ne-eqb (c .before .before .args .r / 17179869184 % 16) 0 (c .before .if1 .left),
-      eq-eqb (c .before .before .args .r / 17179869184 % 16) 1 (c .if2 .taken),
-    )
+    let r = c .before .before .args .r in
+    rw (le-ltb r 1152921504606846976 (c .before .if1 .left), lt-ltb r 2305843009213693952 (c .if2 .taken))
+
+cast-t13 : tie.Need-cast-t13
+cast-t13 c = search needs
 
 returns-3 : tie.Need-returns-3
-unfolding openedOf
+unfolding openedOf atOf heldOf stepsOf depthOf
 returns-3 c =
-    rw (
-      ne-eqb (c .before .before .args .r / 17179869184 % 16) 0 (c .before .if1 .left),
-      ne-eqb (c .before .before .args .r / 17179869184 % 16) 1 (c .if2 .left),
-    )
+    let r = c .before .before .args .r in
+    rw (le-ltb r 1152921504606846976 (c .before .if1 .left), le-ltb r 2305843009213693952 (c .if2 .left))
 
 pub opened-spec : {M : Type 1} → statement M
 opened-spec =
     tie.close
-    (tie.spec cast-at cast-depth cast-kind cast-steps cast-t11 returns returns-2 returns-3)
+    (tie.spec cast-at cast-depth cast-t10 cast-t12 returns cast-steps returns-2 cast-t13 returns-3)
