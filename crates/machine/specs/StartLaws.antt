@@ -5,6 +5,7 @@ use mathlib.Core.Bool.{Bool}
 use mathlib.Core.List.{List, [], _∷_}
 use native.Mathlib.Omega.{arith}
 use lib.ListN.{length, take, drop, getD, length-take}
+use lib.Seq.{take-take}
 use Rattle.format.specs.Reading.{pick}
 use Rattle.parts.specs.declared.outcome.Outcome.the-variants.{Passed, Failed}
 use Rattle.parts.specs.Packed.{atOf, heldOf, stepsOf, depthOf, openedOf}
@@ -53,15 +54,8 @@ pub onward-given : (now : ℕ) {at held steps depth : ℕ} (ok : Bool) (q : ℕ)
 onward-given now ok q h e = rw (h .place, h .names, h .spent, h .deepest) e
 
 -- What lies in the front of a list lies in the list.
-front-take : (l : List ℕ) (n m : ℕ) → m ≤ length (take n l) → take m (take n l) ≡ take m l
-front-take l n zero h = refl
-front-take [] zero (suc m) h = refl
-front-take [] (suc n) (suc m) h = refl
-front-take (x ∷ l) zero (suc m) h = absurd (omega (arith, h))
-front-take (x ∷ l) (suc n) (suc m) h = ap (λ l. x ∷ l) (front-take l n m (omega (arith, h)))
-
 front-part : (l : List ℕ) (n i m : ℕ) → i + m ≤ length (take n l) → take m (drop i (take n l)) ≡ take m (drop i l)
-front-part l n zero m h = front-take l n m (omega (arith, h))
+front-part l n zero m h = take-take m n l (omega (arith, h, length-take n l))
 front-part [] zero (suc i) m h = refl
 front-part [] (suc n) (suc i) m h = refl
 front-part (x ∷ l) zero (suc i) m h = absurd (omega (arith, h))

@@ -1,2 +1,3 @@
 -- Laws that the proofs of several functions cite.
 pub mod ByteLaws
+pub mod CopyLaws

@@ -1,8 +1,22 @@
 // Bytes of the input, one and many.
 ghost use mathlib.Core.Path.{_≡_};
+ghost use mathlib.Core.List.{_++_};
 ghost use Prim.Native.Nat.{_+_, _≤_};
 ghost use lib.ListN.{length, take, drop};
 ghost use Rattle.meaning.specs.Outcome.{same as Outcome·same, begins, inRange};
+
+// Puts down the bytes of b at the front of a.
+pub fn put(a: &mut [u8], b: &[u8])
+    requires { ⌜ length (now b) ≤ length (now a) ⌝ }
+    ensures { λ _. ⌜ now (a .exit) ≡ now (b .entry) ++ drop (length (now (b .entry))) (now (a .entry)) ⌝ }
+{
+    let n = b.len();
+    let mut i = 0;
+    while i < n {
+        a[i] = b[i];
+        i += 1;
+    }
+}
 
 // Whether the n bytes of a from i on are the n bytes of b from j on.
 pub fn same(a: &[u8], i: usize, b: &[u8], j: usize, n: usize) -> bool

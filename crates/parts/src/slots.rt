@@ -3,7 +3,7 @@
 ghost use mathlib.Core.Path.{_≡_};
 ghost use Prim.Native.Nat.{_+_, _-_, _*_, _≤_};
 ghost use mathlib.Core.List.{_++_};
-ghost use lib.ListN.{length, take, replicate};
+ghost use lib.ListN.{length, take, drop, replicate};
 ghost use Rattle.parts.specs.Slots.{putting, latestOf, Closes};
 
 // Puts a symbol down behind the first `held`.
@@ -53,6 +53,18 @@ pub fn close(slots: &mut [u32], table: u32, mark: u32, held: u32) -> u32
         from += 1;
     }
     to
+}
+
+// The first n numbers of others.
+pub fn fill(slots: &mut [u32], others: &[u32], n: usize)
+    requires { ⌜ (n ≤ length (now slots)) × (n ≤ length (now others)) ⌝ }
+    ensures { λ _. ⌜ now (slots .exit) ≡ take n (now (others .entry)) ++ drop n (now (slots .entry)) ⌝ }
+{
+    let mut i = 0;
+    while i < n {
+        slots[i] = others[i];
+        i += 1;
+    }
 }
 
 // Zeros from a place to the end.

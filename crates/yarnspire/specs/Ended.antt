@@ -2,7 +2,8 @@
 use Prim.Native.Nat.{ℕ, _-_, _*_, _≤_}
 use mathlib.Core.Path.{_≡_}
 use mathlib.Core.List.{List, _++_}
-use lib.ListN.{length, replicate}
+use lib.ListN.{length, getD, replicate}
+use Rattle.grammar.specs.Sound.{Bytes}
 use Rattle.meaning.specs.Outcome.{pass, fail}
 use Rattle.meaning.specs.Run.{Result, ran, refused}
 use Rattle.meaning.specs.Recognise.{answerOf, flat, fromStart}
@@ -31,10 +32,13 @@ Kept long (ov.Passed a h s d) = (h ≤ 256) × (h * 3 ≤ long)
 Kept long (ov.Failed s d) = Unit {0}
 Kept long (ov.Refused n p s d) = Unit {0}
 
--- The entry checks are passed, the array holds the image's nodes and patterns and the limits, and exactly 3R slots are lent.
+-- The entry checks are passed, the array holds the image's nodes and patterns, the limits and the image's length, and exactly 3R slots are lent.
 pub record Runs (code image input slots : List ℕ) (start : ℕ) : Type 0 where
   pub coded : Coded image code (grammarOf image)
   pub begins : start ≡ grammarOf image .start
+  pub counted : getD code 523 0 ≡ length image
+  pub small : length image ≤ 16384
+  pub bytes : Bytes input
   pub short : length input ≤ 65535
   pub ranges : Ranges (stepLimit code) (depthLimit code) (roomLimit code)
   pub lent : length slots ≡ roomLimit code * 3

@@ -157,25 +157,35 @@ grammar-is image g e = ap ofChecked e
 module _ {image : List ℕ} {g : Grammar} (e : readImage image ≡ good g) (bytes : Bytes image) {before array : List ℕ} {r : Loaded} (loads : Loads image before array r)
     (B D R : ℕ) (long : length array ≡ 524) where
   abbrev limited : List ℕ
-  limited = set (set (set array 520 B) 521 D) 522 R
+  limited = set (set (set (set array 520 B) 521 D) 522 R) 523 (length image)
 
   unlimited : (n : ℕ) → n < 520 → getD limited n 0 ≡ getD array n 0
   unlimited n h =
-      getD-set-other (set (set array 520 B) 521 D) 522 n R 0 (λ z. omega arith)
+      getD-set-other (set (set (set array 520 B) 521 D) 522 R) 523 n (length image) 0 (λ z. omega arith)
+      ∙ getD-set-other (set (set array 520 B) 521 D) 522 n R 0 (λ z. omega arith)
       ∙ getD-set-other (set array 520 B) 521 n D 0 (λ z. omega arith) ∙ getD-set-other array 520 n B 0 (λ z. omega arith)
 
   steps-set : stepLimit limited ≡ B
   steps-set =
-      getD-set-other (set (set array 520 B) 521 D) 522 520 R 0 (λ z. omega arith)
+      getD-set-other (set (set (set array 520 B) 521 D) 522 R) 523 520 (length image) 0 (λ z. omega arith)
+      ∙ getD-set-other (set (set array 520 B) 521 D) 522 520 R 0 (λ z. omega arith)
       ∙ getD-set-other (set array 520 B) 521 520 D 0 (λ z. omega arith) ∙ getD-set-same array 520 B 0 (omega arith)
 
   depth-set : depthLimit limited ≡ D
   depth-set =
-      getD-set-other (set (set array 520 B) 521 D) 522 521 R 0 (λ z. omega arith)
+      getD-set-other (set (set (set array 520 B) 521 D) 522 R) 523 521 (length image) 0 (λ z. omega arith)
+      ∙ getD-set-other (set (set array 520 B) 521 D) 522 521 R 0 (λ z. omega arith)
       ∙ getD-set-same (set array 520 B) 521 D 0 (rw (length-set array 520 B) (omega arith))
 
   room-set : roomLimit limited ≡ R
-  room-set = getD-set-same (set (set array 520 B) 521 D) 522 R 0 (rw (length-set (set array 520 B) 521 D, length-set array 520 B) (omega arith))
+  room-set =
+      getD-set-other (set (set (set array 520 B) 521 D) 522 R) 523 522 (length image) 0 (λ z. omega arith)
+      ∙ getD-set-same (set (set array 520 B) 521 D) 522 R 0 (rw (length-set (set array 520 B) 521 D, length-set array 520 B) (omega arith))
+
+  count-set : getD limited 523 0 ≡ length image
+  count-set =
+      getD-set-same (set (set (set array 520 B) 521 D) 522 R) 523 (length image) 0
+      (rw (length-set (set (set array 520 B) 521 D) 522 R, length-set (set array 520 B) 521 D, length-set array 520 B) (omega arith))
 
   coded : Coded image limited g
   coded =
@@ -189,10 +199,13 @@ module _ {image : List ℕ} {g : Grammar} (e : readImage image ≡ good g) (byte
 
   module _ {input slots : List ℕ} (E : d.Entered image g input B D R slots) where
     -- The run may be asked for;
-    pub run-asks : {start : ℕ} → start ≡ g .start → Runs limited image input (take (R * 3) slots) start
-    run-asks h =
+    pub run-asks : {start : ℕ} → start ≡ g .start → Bytes input → Runs limited image input (take (R * 3) slots) start
+    run-asks h only =
         let q = sym (grammar-is image g e) in
         record {
+          counted = count-set;
+          small = round.exact image bytes g .0 e .short;
+          bytes = only;
           coded = subst (Coded image limited) q coded;
           begins = h ∙ ap (λ g. g .start) q;
           short = E .input-short;

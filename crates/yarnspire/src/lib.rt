@@ -71,10 +71,11 @@ pub fn recognise(
     if slots.len() < lent {
         return refuse(11, 0);
     }
-    // The limits stand behind the nodes and patterns.
+    // The limits stand behind the nodes and patterns, and behind them how many bytes the image has.
     code[520] = steps;
     code[521] = depth;
     code[522] = room;
+    code[523] = image.len() as u32;
     run(&code, image, input, &mut slots[..lent], start)
 }
 

@@ -8,9 +8,11 @@ ghost use Rattle.parts.specs.Packed.{openedOf};
 ghost use Rattle.yarnspire.specs.Ended.{answerFor, keptOf, Kept, Runs, Ran};
 use crate::answer::Answer;
 use kinds::state::State;
-use machine::evaluate::eval;
+use machine::evaluate::inside;
+use parts::bytes::put;
 use parts::outcome::Outcome;
 use parts::outcome::opened;
+use parts::slots::fill;
 use parts::slots::zero;
 
 // Whether each limit is within its range.
@@ -35,10 +37,10 @@ pub(crate) fn allowed(steps: u32, depth: u32, room: u32) -> bool
     true
 }
 
-// What an outcome answers; the slots keep its symbols, and zeros follow.
-fn ended(slots: &mut [u32], r: u64) -> Answer
+// What an outcome answers; the slots get its symbols from the store, and zeros follow.
+fn ended(slots: &mut [u32], store: &[u32; 768], r: u64) -> Answer
     requires { ⌜ Kept (length (now slots)) (openedOf r) ⌝ }
-    ensures { λ a. ⌜ (a ≡ answerFor (openedOf r)) × (now (slots .exit) ≡ take (keptOf (openedOf r)) (now (slots .entry)) ++ replicate (length (now (slots .entry)) - keptOf (openedOf r)) 0) ⌝ }
+    ensures { λ a. ⌜ (a ≡ answerFor (openedOf r)) × (now (slots .exit) ≡ take (keptOf (openedOf r)) (now (store .entry)) ++ replicate (length (now (slots .entry)) - keptOf (openedOf r)) 0) ⌝ }
 {
     let outcome = opened(r);
     match outcome {
@@ -48,7 +50,9 @@ fn ended(slots: &mut [u32], r: u64) -> Answer
             steps,
             depth,
         } => {
-            zero(slots, (held * 3) as usize);
+            let kept = (held * 3) as usize;
+            fill(slots, store, kept);
+            zero(slots, kept);
             Answer::Accepted {
                 consumed: at,
                 steps,
@@ -77,7 +81,8 @@ fn ended(slots: &mut [u32], r: u64) -> Answer
     }
 }
 
-// Runs the start node from the input's start, with every condition true and no symbol held, over exactly the slots that the room allows.
+// Runs the start node from the input's start, with every condition true and no symbol held. The evaluator works on arrays of a fixed length, which
+// reach it without a length beside them: the image's bytes, and a store with room for every symbol that may be held.
 pub(crate) fn run(
     code: &[u32; 524],
     image: &[u8],
@@ -88,22 +93,22 @@ pub(crate) fn run(
     requires { ⌜ Runs (now code) (now image) (now input) (now slots) start ⌝ }
     ensures { λ a. ⌜ Ran (now (code .entry)) (now (image .entry)) (now (input .entry)) (now (slots .exit)) a ⌝ }
 {
+    let mut bytes = [0u8; 16384];
+    put(&mut bytes, image);
+    let mut store = [0u32; 768];
     let state = State {
         truths: [true; 8],
         floors: [0u16; 8],
     };
-    let r = eval(
+    let r = inside(
         code,
-        image,
+        &bytes,
         input,
-        slots,
+        &mut store,
         state,
         code[521],
         start,
         0,
-        0,
-        0,
-        0,
     );
-    ended(slots, r)
+    ended(slots, &store, r)
 }

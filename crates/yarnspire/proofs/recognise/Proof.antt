@@ -7,7 +7,7 @@ use native.Mathlib.Omega.{arith}
 use lib.Seq.{length-take-le}
 use Rattle.grammar.specs.Sound.{Bytes}
 use Rattle.format.specs.Image.{readImage}
-use Rattle.format.specs.RoundTrip.{refusal}
+use Rattle.format.specs.RoundTrip.{exact, refusal}
 use Rattle.meaning.specs.Demands.{Entered, image-refused, input-refused, limits-refused, slots-refused}
 use Rattle.yarnspire.specs.PromiseLaws.{found-fault, fault-small, found-good, refuses, permitted, disallowed, run-asks, run-gives}
 use borrow.Author.Needs.{needs}
@@ -17,6 +17,10 @@ use Rattle.yarnspire.proofs.recognise.Tie as tie
 -- The image is a list of bytes.
 bytes : (c : tie.After-shared-slice-known) → Bytes (c .before .args .image .now)
 bytes c i = omega (arith, c .shared-slice-known .given i)
+
+-- The input is one too.
+input-bytes : (c : tie.After-shared-slice-known2) → Bytes (c .before .before .args .input .now)
+input-bytes c i = omega (arith, c .shared-slice-known2 .given i)
 
 load-requires : tie.Need-load-requires
 load-requires c κs = search needs
@@ -96,6 +100,15 @@ array-write-code-2 c = search needs
 array-write-code-3 : tie.Need-array-write-code-3
 array-write-code-3 c = search needs
 
+cast-code : tie.Need-cast-code
+cast-code c =
+    let a = c .before .before .before .before .before .before .before .before .before .before .before .before .args in
+    let w = found-good (readImage (a .image .now)) (c .before .before .before .before .before .loaded .given .1) (c .before .before .before .before .before .before .before .load .ensures .answer) in
+    omega (arith, exact (a .image .now) (bytes (c .before .before .before .before .before .before .before .before .before .before .before)) (w .0) .0 (w .1) .short)
+
+array-write-code-4 : tie.Need-array-write-code-4
+array-write-code-4 c = search needs
+
 slice-relend-prefix-run : tie.Need-slice-relend-prefix-run
 slice-relend-prefix-run c = search needs
 
@@ -114,6 +127,7 @@ run-requires c κs =
     } in
     let L = c .before .before .before .before .before .before .before .before .before .load .ensures in
     run-asks (w .1) (bytes (c .before .before .before .before .before .before .before .before .before .before .before .before .before)) L (a .steps) (a .depth) (a .room) (ap length (L .array) ∙ filled-length (a .image .now) (replicate 524 0)) E (w .2)
+    (input-bytes (c .before .before .before .before .before .before .before .before .before .before .before .before))
 
 same-length : tie.Need-same-length
 same-length c = search needs
@@ -153,6 +167,8 @@ recognise-spec =
     array-write-code
     array-write-code-2
     array-write-code-3
+    cast-code
+    array-write-code-4
     slice-relend-prefix-run
     slice-aggregate-run
     run-requires
