@@ -12,8 +12,9 @@ use Rattle.image.specs.declared.walk.Verdict.{Verdict}
 use Rattle.format.specs.Reading.{Reading}
 use Rattle.format.specs.Image.{Head, readImage}
 use Rattle.image.specs.declared.node.Node.{Node}
+use Rattle.image.specs.declared.node.Span.{Span}
 use Rattle.image.specs.Word.{packed}
-use Rattle.image.specs.Node.{nodeOf}
+use Rattle.image.specs.Node.{nodeOf, spanOf}
 use Rattle.image.specs.Filled.{Fills, Loads}
 use Rattle.reader.specs.Unique.{one-reading}
 use Rattle.image.specs.Meant.{header, verdict}
@@ -63,6 +64,10 @@ one-verdict image r r' e f = e ∙ sym f
 -- `node_of`
 pub one-node : (word : ℕ) (r r' : Node) → r ≡ nodeOf word → r' ≡ nodeOf word → r ≡ r'
 one-node word r r' e f = e ∙ sym f
+
+-- `span_of`
+pub one-span : (k : Node) (r r' : Span) → r ≡ spanOf k → r' ≡ spanOf k → r ≡ r'
+one-span k r r' e f = e ∙ sym f
 
 -- `word`
 pub one-word : (tag a b r r' : ℕ) → r ≡ packed tag a b → r' ≡ packed tag a b → r ≡ r'

@@ -17,7 +17,16 @@ use Rattle.kinds.specs.Turned.{definedIn, ClosedOf}
 use Rattle.machine.specs.Told.{Told}
 use Rattle.machine.specs.Ready.{readBack, Done}
 
--- `passed`, `failed`, `refused`, `given`, `again`, `negated`, `restored`, `is_latest`, `is_some`: each promises `openedOf q ≡ o`.
+-- `at_of`, `held_of`, `steps_of`, `depth_of`: each promises its number.
+pub one-number : (r r′ : ℕ) {n : ℕ} → r ≡ n → r′ ≡ n → r ≡ r′
+one-number r r′ e f = e ∙ sym f
+
+-- `store`, `fill`, `zero`, `put`: each promises the whole list.
+pub one-list : (l l′ : List ℕ) {m : List ℕ} → l ≡ m → l′ ≡ m → l ≡ l′
+one-list l l′ e f = e ∙ sym f
+
+-- `passed`, `failed`, `refused`, `stopped`, `onward`, `given`, `again`, `negated`, `restored`, `is_latest`, `is_some`: each promises
+-- `openedOf q ≡ o`.
 pub one-opened : (q q′ : ℕ) {o : Outcome} → openedOf q ≡ o → openedOf q′ ≡ o → openedOf q ≡ openedOf q′
 one-opened q q′ e f = e ∙ sym f
 
@@ -39,7 +48,7 @@ pub one-state : (s s′ : State) {v : Env} → envOf s ≡ v → envOf s′ ≡ 
 one-state s s′ e f =
     let g = e ∙ sym f in λ i. record { truths = g i .truths; floors = g i .floors }
 
--- `eval`, `sequence`, `choice`, `star`: the outcome, and the symbols that it holds. What lies in the slots above those is left open, since
+-- `eval`, `inside`, `sequence`, `choice`, `star`: the outcome, and the symbols that it holds. What lies in the slots above those is left open, since
 -- nothing ever looks there before it is written.
 pub one-outcome : {held : ℕ} {before after after′ : List ℕ} {r r′ : ℕ} {T : Told} → Done held before after r T → Done held before after′ r′ T
     → (openedOf r ≡ openedOf r′) × (readBack (openedOf r) after ≡ readBack (openedOf r) after′)

@@ -100,15 +100,6 @@ pub(crate) fn run(
         truths: [true; 8],
         floors: [0u16; 8],
     };
-    let r = inside(
-        code,
-        &bytes,
-        input,
-        &mut store,
-        state,
-        code[521],
-        start,
-        0,
-    );
+    let r = inside(code, &bytes, input, &mut store, state, code[521], start, 0);
     ended(slots, &store, r)
 }

@@ -53,9 +53,11 @@ returns : tie.Need-returns
 returns c =
     let s = c .before .before .before .before .before .before .before .before .before .before .before .before .before .before in let a = s .args in let n = c .before .before .before .before .before .before .before .before .before .before .outcome .given .0 .1 .0 * 3 in
     let k = subst (Kept (length (a .slots .now))) (sym (c .before .before .before .before .before .before .before .before .before .before .before .before .opened .ensures) ∙ c .before .before .before .before .before .before .before .before .before .before .outcome .given .1) (s .pre) in
-    let e = sym (c .before .before .before .before .before .before .before .before .before .before .outcome .given .1) ∙ c .before .before .before .before .before .before .before .before .before .before .before .before .opened .ensures in
-    (ap answerFor e, c .before .before .zero .ensures ∙ filled-zeros n (a .store .now) (a .slots .now) (omega (arith, k .0)) (k .1) (c .before .before .before .before .before .before .fill .ensures)
-    ∙ ap (λ o. take (keptOf o) (a .store .now) ++ replicate (length (a .slots .now) - keptOf o) 0) e)
+    let e = sym (c .before .before .before .before .before .before .before .before .before .before .outcome .given .1) ∙ c .before .before .before .before .before .before .before .before .before .before .before .before .opened .ensures in (
+      ap answerFor e,
+      c .before .before .zero .ensures ∙ filled-zeros n (a .store .now) (a .slots .now) (omega (arith, k .0)) (k .1) (c .before .before .before .before .before .before .fill .ensures)
+          ∙ ap (λ o. take (keptOf o) (a .store .now) ++ replicate (length (a .slots .now) - keptOf o) 0) e,
+    )
 
 same-length-2 : tie.Need-same-length-2
 same-length-2 c = search needs

@@ -121,10 +121,12 @@ module _ (t : ℕ) where
 
   pub passed-requires : lts.Need-passed-requires (inside-claims t) (inside-at t) inside.Post
   passed-requires c κs =
-      let s = c .before .before .before .before .before .before .before in let r = s .pre .1 .0 .0 in let e = c .entered .ensures in
-      (omega (arith, c .before .before .before .before .before .at-of .ensures, r .place, r .short), omega (arith, c .before .before .before .before .held-of .ensures, r .room, r .small-room),
-      omega (arith, ap (λ (t : Tally). t .steps) e, c .before .before .before .steps-of .ensures, s .pre .1 .2, r .few-steps),
-      omega (arith, ap (λ (t : Tally). t .depth) e, c .before .before .depth-of .ensures, r .entered, r .small-depth))
+      let s = c .before .before .before .before .before .before .before in let r = s .pre .1 .0 .0 in let e = c .entered .ensures in (
+        omega (arith, c .before .before .before .before .before .at-of .ensures, r .place, r .short),
+        omega (arith, c .before .before .before .before .held-of .ensures, r .room, r .small-room),
+        omega (arith, ap (λ (t : Tally). t .steps) e, c .before .before .before .steps-of .ensures, s .pre .1 .2, r .few-steps),
+        omega (arith, ap (λ (t : Tally). t .depth) e, c .before .before .depth-of .ensures, r .entered, r .small-depth),
+      )
 
   pub mul-node-of : lts.Need-mul-node-of (inside-claims t) (inside-at t) inside.Post
   mul-node-of c = search needs

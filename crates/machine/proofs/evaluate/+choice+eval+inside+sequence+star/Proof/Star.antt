@@ -123,9 +123,12 @@ module _ (t : ℕ) where
       let n = node (grammarOf (imageOf (a .code .now) (a .image .now))) (a .a) in
       let e = sym (c .before .before .before .before .before .before .before .before .opened .ensures) ∙ c .before .before .before .before .before .round .given .1 in
       let b = subst (Bounds (length (a .input .now)) (atOf (c .before .before .before .before .before .before .before .before .before .before .before .loop .here)) (heldOf (c .before .before .before .before .before .before .before .before .before .before .before .loop .here)) (roomLimit (a .code .now))) e (bounds-of (a .state) n l (c .before .before .before .before .before .before .before .before .before .eval .ensures)) in
-      let t = c .entered .ensures in
-      (omega (arith, b .1, l .short), omega (arith, b .3, l .small-room), omega (arith, ap (λ (t : Tally). t .steps) t, c .before .if2 .left, l .few-steps),
-      omega (arith, ap (λ (t : Tally). t .depth) t, b .5))
+      let t = c .entered .ensures in (
+        omega (arith, b .1, l .short),
+        omega (arith, b .3, l .small-room),
+        omega (arith, ap (λ (t : Tally). t .steps) t, c .before .if2 .left, l .few-steps),
+        omega (arith, ap (λ (t : Tally). t .depth) t, b .5),
+      )
 
   pub loop-less : lts.Need-loop-less (star-claims t) (star-at t) star.Post Inv-loop μ-loop
   loop-less c =
