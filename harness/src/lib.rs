@@ -25,6 +25,7 @@
 
 pub mod answer;
 pub mod cases;
+pub mod figures;
 pub mod grammar;
 pub mod harbour;
 pub mod hex;
