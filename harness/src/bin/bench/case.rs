@@ -2,11 +2,11 @@
 
 use std::fs;
 
-use yarnspire::{plain, recognise_numbers, reference, Limits, Numbers};
+use yarnspire::implementations::Implementation;
+use yarnspire::{reference, Limits, Numbers};
 
 use crate::lua::Lua;
 use crate::timing::time_batch;
-use crate::timing::Implementation::{self, Library, Lpeg, Plain, Reference};
 
 /// Where LPeg reads the inputs.
 pub const INPUTS: &str = "target/bench/inputs";
@@ -23,17 +23,20 @@ pub struct Case {
 }
 
 impl Case {
-    /// Writes the input for LPeg to read, and asserts that the library, plain Rust and the reference answer alike, slots included.
+    /// Writes the input for LPeg to read, and asserts that all the others answer alike, slots included.
     pub fn new(grammar: &'static str, name: &str, input: Vec<u8>) -> Case {
         let image = fs::read(format!("samples/{grammar}/rules")).expect("the sample's image");
         let file = format!("{INPUTS}/{name}");
         fs::write(&file, &input).expect("the input is written");
-        let mut slots = [slot_buffer(), slot_buffer(), slot_buffer()];
-        let answer = recognise_numbers(&image, &input, Limits::AMPLE, &mut slots[0]);
-        let by_plain = plain::recognise(&image, &input, Limits::AMPLE, &mut slots[1]);
-        let (by_reference, trace) = reference::recognise(&image, &input, Limits::AMPLE, &mut slots[2], None);
-        assert_eq!([by_plain, by_reference], [answer; 2], "{name}: the answers differ");
-        assert!(slots.iter().all(|each| *each == slots[0]), "{name}: the slots differ");
+        let mut slots = slot_buffer();
+        let (answer, trace) = reference::recognise(&image, &input, Limits::AMPLE, &mut slots, None);
+        for one in Implementation::measured() {
+            if let Some(recognise) = one.recognise() {
+                let mut own_slots = slot_buffer();
+                assert_eq!(recognise(&image, &input, Limits::AMPLE, &mut own_slots), answer, "{name}: the answers of reference and {one:?} differ");
+                assert_eq!(own_slots, slots, "{name}: the slots of reference and {one:?} differ");
+            }
+        }
         Case { grammar, image, input, name: name.to_string(), file, answer, most_held: trace.room }
     }
 
@@ -50,12 +53,9 @@ impl Case {
 
     /// The nanoseconds that so many calls take. The slots are lent to each call as the one before left them.
     pub fn batch(&self, implementation: Implementation, count: usize, slots: &mut [u32], lua: &mut Lua) -> f64 {
-        let (image, input) = (&self.image, &self.input);
-        match implementation {
-            Library => time_batch(count, || assert_eq!(recognise_numbers(image, input, Limits::AMPLE, slots), self.answer)),
-            Plain => time_batch(count, || assert_eq!(plain::recognise(image, input, Limits::AMPLE, slots), self.answer)),
-            Reference => time_batch(count, || assert_eq!(reference::recognise(image, input, Limits::AMPLE, slots, None).0, self.answer)),
-            Lpeg => lua.time(self.grammar, &self.file, count, self.answer.kind == Numbers::FAILED),
+        match implementation.recognise() {
+            Some(recognise) => time_batch(count, || assert_eq!(recognise(&self.image, &self.input, Limits::AMPLE, slots), self.answer)),
+            None => lua.time(self.grammar, &self.file, count, self.answer.kind == Numbers::FAILED),
         }
     }
 }

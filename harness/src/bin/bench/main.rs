@@ -1,5 +1,5 @@
-//! The proved library, the same rules in plain Rust, the reference and LPeg, timed on the same grammars and inputs in one run. Run by scripts/bench
-//! from the repository's folder; writes docs/bench/.
+//! The proved library, now and before, the same rules in plain Rust, the reference and LPeg, timed on the same grammars and inputs in one run. Run by
+//! scripts/bench from the repository's folder; writes docs/bench/table.md and two plots.
 
 mod case;
 mod conditions;
@@ -32,7 +32,7 @@ fn main() {
     let by_size = KINDS.iter().flat_map(|kind| SIZES.map(|bytes| (kind, bytes))).map(|(kind, bytes)| sized(kind, bytes, &mut lua)).collect();
     let by_names = NAMES_HELD.iter().map(|&names| holding(names, &mut lua)).collect();
     let on_nothing = vec![empty(&mut lua)];
-    println!("library, plain Rust and reference agree on every input, and LPeg accepts what they accept; timing ..");
+    println!("all agree on every input, and LPeg accepts what they accept; timing ..");
     let mut results = Results { by_size, by_names, on_nothing };
     time_in_turn(results.all(), &mut lua);
 

@@ -6,7 +6,7 @@ use crate::Results;
 
 pub fn page(results: &Results, load: &str, lua_version: &str) -> String {
     let Results { by_size, by_names, on_nothing } = results;
-    let mut page = String::from("# How fast it is\n\nWritten by `make bench`.\n\n");
+    let mut page = String::from("# How fast it is\n\nWritten by `make bench`; [below](#what-was-measured) is what was measured.\n\n");
     page.push_str("![Time a byte, by grammar and size of the input](growth.svg)\n\n![Time a step, by names held](symbols.svg)\n\n");
     page.push_str("## By grammar and size\n\n");
     page.push_str("Medians. *Names* is how many were held at a time, at most.\n\n");

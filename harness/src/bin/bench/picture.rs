@@ -13,6 +13,7 @@ pub struct Style {
 
 #[derive(Clone, Copy)]
 pub enum Mark {
+    Ring,
     Circle,
     Diamond,
     Square,
@@ -126,22 +127,26 @@ impl Picture {
 
     /// Writes every value above its mark.
     pub fn all_values(&mut self, frame: Frame, x: &Axis, y: &Axis, lines: &[Line]) {
-        for line in lines {
-            for ((left, top), &(_, value)) in line.places(frame, x, y).into_iter().zip(&line.points) {
-                self.value(line.style, (left, top - 10.0), "middle", value);
-            }
+        let most = lines.iter().map(|line| line.points.len()).max().unwrap_or(0);
+        for i in 0..most {
+            let at = |line: &Line| Some((line.style, *line.places(frame, x, y).get(i)?, line.points.get(i)?.1));
+            self.values(lines.iter().filter_map(at).collect(), (0.0, -10.0), "middle");
         }
     }
 
-    /// Writes the last value of each line to the right of its mark, from the lowest up, each clear of the one below.
+    /// Writes the last value of each line to the right of its mark.
     pub fn last_values(&mut self, frame: Frame, x: &Axis, y: &Axis, lines: &[Line]) {
         let last = |line: &Line| Some((line.style, *line.places(frame, x, y).last()?, line.points.last()?.1));
-        let mut values: Vec<(Style, (f64, f64), f64)> = lines.iter().filter_map(last).collect();
+        self.values(lines.iter().filter_map(last).collect(), (9.0, 4.0), "start");
+    }
+
+    /// Writes values beside their marks, so far to the right and so far down, from the lowest up, each clear of the one below.
+    fn values(&mut self, mut values: Vec<(Style, (f64, f64), f64)>, (right, down): (f64, f64), anchor: &str) {
         values.sort_by(|(_, (_, a), _), (_, (_, b), _)| b.total_cmp(a));
         let mut clear = f64::INFINITY;
         for (style, (left, top), value) in values {
-            let top = clear.min(top + 4.0);
-            self.value(style, (left + 9.0, top), "start", value);
+            let top = clear.min(top + down);
+            self.value(style, (left + right, top), anchor, value);
             clear = top - 12.0;
         }
     }
@@ -187,6 +192,7 @@ impl Picture {
     fn mark(&mut self, style: Style, (x, y): (f64, f64)) {
         let colour = style.colour;
         match style.mark {
+            Mark::Ring => self.put(format_args!("<circle cx=\"{x:.1}\" cy=\"{y:.1}\" r=\"4.5\" fill=\"#fff\" stroke=\"{colour}\" stroke-width=\"2\"/>")),
             Mark::Circle => self.put(format_args!("<circle cx=\"{x:.1}\" cy=\"{y:.1}\" r=\"4.5\" fill=\"{colour}\"/>")),
             Mark::Diamond => self.put(format_args!("<path d=\"M{x:.1} {:.1} l5.5 5.5 l-5.5 5.5 l-5.5 -5.5 z\" fill=\"{colour}\"/>", y - 5.5)),
             Mark::Square => self.put(format_args!("<rect x=\"{:.1}\" y=\"{:.1}\" width=\"8\" height=\"8\" fill=\"{colour}\"/>", x - 4.0, y - 4.0)),

@@ -3,35 +3,41 @@
 use std::fmt::Write;
 
 use yarnspire::figures::{figure, grouped};
+use yarnspire::implementations::Implementation::{self, Before, Library, Lpeg, Plain, Reference};
 
-use crate::timing::Implementation::{Library, Lpeg, Plain, Reference};
-use crate::timing::{Measured, IMPLEMENTATIONS};
+use crate::timing::Measured;
 
-const HEADINGS: [&str; 11] = [
-    "grammar",
-    "bytes",
-    "steps",
-    "names",
-    "library, ns a step",
-    "plain Rust, ns a step",
-    "reference, ns a step",
-    "library / plain Rust",
-    "library, ns a byte",
-    "LPeg, ns a byte",
-    "library / LPeg",
+/// A column of a table: what it has for a case, if all that it speaks of was measured.
+struct Column {
+    heading: &'static str,
+    of: &'static [Implementation],
+    cell: fn(&Measured) -> String,
+}
+
+const COLUMNS: [Column; 13] = [
+    Column { heading: "grammar", of: &[], cell: |row| row.case.grammar.to_string() },
+    Column { heading: "bytes", of: &[], cell: |row| grouped(row.case.input.len()) },
+    Column { heading: "steps", of: &[], cell: |row| grouped(row.case.answer.steps as usize) },
+    Column { heading: "names", of: &[], cell: |row| grouped(row.case.most_held as usize) },
+    Column { heading: "before, ns a step", of: &[Before], cell: |row| figure(row.a_step(Before)) },
+    Column { heading: "library, ns a step", of: &[Library], cell: |row| figure(row.a_step(Library)) },
+    Column { heading: "plain Rust, ns a step", of: &[Plain], cell: |row| figure(row.a_step(Plain)) },
+    Column { heading: "reference, ns a step", of: &[Reference], cell: |row| figure(row.a_step(Reference)) },
+    Column { heading: "before / library", of: &[Before, Library], cell: |row| figure(row.ratio(Before, Library)) },
+    Column { heading: "library / plain Rust", of: &[Library, Plain], cell: |row| figure(row.ratio(Library, Plain)) },
+    Column { heading: "library, ns a byte", of: &[Library], cell: |row| figure(row.a_byte(Library)) },
+    Column { heading: "LPeg, ns a byte", of: &[Lpeg], cell: |row| figure(row.a_byte(Lpeg)) },
+    Column { heading: "library / LPeg", of: &[Library, Lpeg], cell: |row| figure(row.ratio(Library, Lpeg)) },
 ];
 
 /// What each implementation takes a step and a byte.
 pub fn table(rows: &[Measured]) -> String {
-    let mut text = format!("| {} |\n|---{}|\n", HEADINGS.join(" | "), "|--:".repeat(HEADINGS.len() - 1));
+    let measured = Implementation::measured();
+    let columns: Vec<&Column> = COLUMNS.iter().filter(|column| column.of.iter().all(|one| measured.contains(one))).collect();
+    let headings: Vec<&str> = columns.iter().map(|column| column.heading).collect();
+    let mut text = format!("| {} |\n|---{}|\n", headings.join(" | "), "|--:".repeat(headings.len() - 1));
     for row in rows {
-        let counts = [row.case.input.len(), row.case.answer.steps as usize, row.case.most_held as usize];
-        let library_to = |other| row.median(Library) / row.median(other);
-        let [library, plain, reference] = [Library, Plain, Reference].map(|one| row.a_step(one));
-        let values = [library, plain, reference, library_to(Plain), row.a_byte(Library), row.a_byte(Lpeg), library_to(Lpeg)];
-        let mut cells = vec![row.case.grammar.to_string()];
-        cells.extend(counts.iter().map(|&count| grouped(count)));
-        cells.extend(values.iter().map(|&value| figure(value)));
+        let cells: Vec<String> = columns.iter().map(|column| (column.cell)(row)).collect();
         writeln!(text, "| {} |", cells.join(" | ")).expect("text grows");
     }
     text
@@ -39,12 +45,12 @@ pub fn table(rows: &[Measured]) -> String {
 
 /// How long a call takes: the best and the median batch of each implementation.
 pub fn calls<'a>(rows: impl IntoIterator<Item = &'a Measured>) -> String {
-    let mut text = String::from(
-        "| input | library: best | median | plain Rust: best | median | reference: best | median | LPeg: best | median |\n\
-         |---|--:|--:|--:|--:|--:|--:|--:|--:|\n",
-    );
+    let measured = Implementation::measured();
+    let headings: Vec<String> = measured.iter().map(|one| format!("{}: best | median", one.name())).collect();
+    let mut text = format!("| input | {} |\n|---{}|\n", headings.join(" | "), "|--:".repeat(2 * measured.len()));
     for row in rows {
-        let cells: Vec<String> = IMPLEMENTATIONS.iter().flat_map(|&one| [row.best(one), row.median(one)]).map(|time| figure(time / 1e3)).collect();
+        let times = measured.iter().flat_map(|&one| [row.best(one), row.median(one)]);
+        let cells: Vec<String> = times.map(|time| figure(time / 1e3)).collect();
         writeln!(text, "| {} | {} |", row.case.name, cells.join(" | ")).expect("text grows");
     }
     text

@@ -2,6 +2,8 @@
 
 use std::os::raw::c_long;
 
+use yarnspire::implementations::Implementation;
+
 use crate::case::{slot_buffer, Case};
 use crate::lua::Lua;
 
@@ -29,22 +31,10 @@ pub fn time_batch(count: usize, mut call: impl FnMut()) -> f64 {
     processor_time() - begin
 }
 
-#[derive(Clone, Copy)]
-pub enum Implementation {
-    Library,
-    Plain,
-    Reference,
-    Lpeg,
-}
-
-use Implementation::{Library, Lpeg, Plain, Reference};
-
-pub const IMPLEMENTATIONS: [Implementation; 4] = [Library, Plain, Reference, Lpeg];
-
 /// A case with its times: for each implementation the nanoseconds a call, one number for each batch.
 pub struct Measured {
     pub case: Case,
-    times: [Vec<f64>; IMPLEMENTATIONS.len()],
+    times: [Vec<f64>; Implementation::ALL.len()],
 }
 
 impl Measured {
@@ -61,6 +51,11 @@ impl Measured {
         times[times.len() / 2]
     }
 
+    /// How many times as long one takes as another.
+    pub fn ratio(&self, one: Implementation, other: Implementation) -> f64 {
+        self.median(one) / self.median(other)
+    }
+
     pub fn a_byte(&self, implementation: Implementation) -> f64 {
         self.median(implementation) / self.case.input.len() as f64
     }
@@ -74,13 +69,14 @@ impl Measured {
 /// of each, and not all batches of one.
 pub fn time_in_turn(mut cases: Vec<&mut Measured>, lua: &mut Lua) {
     let mut slots = slot_buffer();
-    let mut calls = |case: &Case| IMPLEMENTATIONS.map(|one| calls_in_batch(|count| case.batch(one, count, &mut slots, lua)));
-    let calls: Vec<[usize; IMPLEMENTATIONS.len()]> = cases.iter().map(|row| calls(&row.case)).collect();
+    let measured = Implementation::measured();
+    let mut calls = |case: &Case, one| calls_in_batch(|count| case.batch(one, count, &mut slots, lua));
+    let calls: Vec<Vec<usize>> = cases.iter().map(|row| measured.iter().map(|&one| calls(&row.case, one)).collect()).collect();
     for _ in 0..ROUNDS {
         for (row, calls) in cases.iter_mut().zip(&calls) {
-            for (one, &count) in IMPLEMENTATIONS.iter().zip(calls) {
-                let time = row.case.batch(*one, count, &mut slots, lua);
-                row.times[*one as usize].push(time / count as f64);
+            for (&one, &count) in measured.iter().zip(calls) {
+                let time = row.case.batch(one, count, &mut slots, lua);
+                row.times[one as usize].push(time / count as f64);
             }
         }
     }
