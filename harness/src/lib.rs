@@ -38,6 +38,7 @@ pub mod plain;
 pub mod random;
 pub mod reference;
 pub mod tally;
+pub mod visits;
 
 pub use answer::{Answer, Numbers, Refusal, Symbol};
 
