@@ -21,9 +21,14 @@ use Implementation::{Before, Library, Lpeg, Plain, Reference};
 impl Implementation {
     pub const ALL: [Implementation; 5] = [Before, Library, Plain, Reference, Lpeg];
 
-    /// All that can be measured here: the earlier library is not always linked.
+    /// All that are measured.
     pub fn measured() -> Vec<Implementation> {
-        Self::ALL.into_iter().filter(|&one| one != Before || one.recognise().is_some()).collect()
+        Self::ALL.into_iter().filter(|one| one.is_measured()).collect()
+    }
+
+    /// Whether it is measured: the earlier library is not always linked.
+    pub fn is_measured(self) -> bool {
+        self != Before || before::RECOGNISE.is_some()
     }
 
     pub fn name(self) -> &'static str {

@@ -3,11 +3,13 @@
 
 mod case;
 mod conditions;
+mod held;
 mod lua;
 mod page;
 mod picture;
 mod plots;
 mod tables;
+mod targets;
 mod timing;
 
 use std::fs;

@@ -20,8 +20,7 @@ fn style(implementation: Implementation) -> Style {
 
 /// Those of them that were measured.
 fn of_these(shown: &[Implementation]) -> impl Iterator<Item = Implementation> + '_ {
-    let measured = Implementation::measured();
-    shown.iter().copied().filter(move |one| measured.contains(one))
+    shown.iter().copied().filter(|one| one.is_measured())
 }
 
 fn styles(shown: &[Implementation]) -> Vec<Style> {

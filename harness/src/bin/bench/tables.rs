@@ -32,8 +32,7 @@ const COLUMNS: [Column; 13] = [
 
 /// What each implementation takes a step and a byte.
 pub fn table(rows: &[Measured]) -> String {
-    let measured = Implementation::measured();
-    let columns: Vec<&Column> = COLUMNS.iter().filter(|column| column.of.iter().all(|one| measured.contains(one))).collect();
+    let columns: Vec<&Column> = COLUMNS.iter().filter(|column| column.of.iter().all(|one| one.is_measured())).collect();
     let headings: Vec<&str> = columns.iter().map(|column| column.heading).collect();
     let mut text = format!("| {} |\n|---{}|\n", headings.join(" | "), "|--:".repeat(headings.len() - 1));
     for row in rows {
