@@ -62,7 +62,7 @@ pub fn conditions(load: &str, lua_version: &str) -> String {
   helped most is that a single byte is looked at without a call; that the second part of a sequence or a choice runs in the call of the first helped
   less. Steps and depth are counted as 01 says all the same. 01 asks of the library that its evaluator calls itself on child nodes.
 - Where a function lies in memory moves a time by some hundredths, and on some grammars that of plain Rust by nearly a tenth. The two libraries lie in
-  different places of one program: a ratio of before and library within a hundredth of 1 says that they are equal.
+  different places of one program: a ratio of before and library within two hundredths of 1 says that they are equal.
 - The ratio of library and plain Rust is one of two programs and two compilers: rustc made one, and Rattle with the kit's clang the other.
 - The reference is the readable implementation, not a fast one: it hands the lists of all tables round by value, copies them in nearly every
   step, and carries the switches by which the tests make wrong machines of it. So its time a step grows with the names held. It shows what those

@@ -4,18 +4,15 @@ use std::fmt::Write;
 
 use yarnspire::figures::{figure, grouped};
 use yarnspire::implementations::Implementation::{Before, Library, Plain};
+use yarnspire::inputs::FEW_AND_MANY;
 use yarnspire::visits::{visits, Visits};
 
 use crate::timing::Measured;
 use crate::{Results, SIZES};
 
-/// The two that are compared: with few names held, and with many.
-const FEW: usize = 20;
-const MANY: usize = 200;
-
 /// A case with few names held, and one with many.
 pub fn few_and_many(by_names: &[Measured]) -> [&Measured; 2] {
-    [FEW, MANY].map(|names| by_names.iter().find(|row| row.case.answer.symbols as usize == names).expect("so many names are held in one"))
+    FEW_AND_MANY.map(|names| by_names.iter().find(|row| row.case.answer.symbols as usize == names).expect("so many names are held in one"))
 }
 
 /// The section on looks at the store.
@@ -49,16 +46,17 @@ fn cells(counts: Visits) -> Vec<String> {
 
 /// What many names cost more than few, and how much of it goes to which looks.
 fn difference([few, many]: [&Measured; 2]) -> String {
+    let [few_names, many_names] = FEW_AND_MANY;
     let [with_few, with_many] = [few, many].map(counted);
     let more = |of: fn(&Visits) -> u64| of(&with_many) as f64 - of(&with_few) as f64;
     let looks = more(Visits::all);
     let [sought, compared, closed, in_place] = [more(|of| of.sought), more(|of| of.compared), more(|of| of.closed), more(|of| of.moved_nowhere)];
     format!(
-        "\nFrom {FEW} to {MANY} names held there are {looks} looks more: {sought} in searches, {compared} in Isa's walks, {closed} when scopes close. \
+        "\nFrom {few_names} to {many_names} names held there are {looks} looks more: {sought} in searches, {compared} in Isa's walks, {closed} when scopes close. \
          A call takes more time:\n\n{times}\n\
          If each look takes as long as any other, Isa's walks are {isa} of that time. To have each table's latest name at hand would save at most the looks of the\n\
          searches, {searches} of it; here these are all Isa's, since the grammar has no Match, Is or Exists. To close a scope from the first name that goes would save at most\n\
-         the moves in place, {moves} of it.\n",
+         the moves in place, {moves} of it. The instructions of each function, with {few_names} names held and with {many_names}, are in [the profile](profile.md).\n",
         times = times_more([few, many], looks),
         isa = share(compared, looks),
         searches = share(sought, looks),
@@ -71,7 +69,7 @@ fn difference([few, many]: [&Measured; 2]) -> String {
 }
 
 fn times_more([few, many]: [&Measured; 2], looks: f64) -> String {
-    let mut text = format!("| | microseconds more | of the time with {FEW} | ns for each look more |\n|---|--:|--:|--:|\n");
+    let mut text = format!("| | microseconds more | of the time with {} | ns for each look more |\n|---|--:|--:|--:|\n", FEW_AND_MANY[0]);
     for one in [Library, Before, Plain].into_iter().filter(|one| one.is_measured()) {
         let time = many.median(one) - few.median(one);
         let cells = [figure(time / 1e3), share(time, few.median(one)), figure(time / looks)];
@@ -86,5 +84,5 @@ fn signed(number: f64) -> String {
 }
 
 fn share(part: f64, whole: f64) -> String {
-    format!("{:.1} %", 100.0 * part / whole)
+    format!("{:.2} %", 100.0 * part / whole)
 }

@@ -22,8 +22,6 @@ use yarnspire::inputs::{typedef_holding, Kind, KINDS};
 
 const SIZES: [usize; 3] = [2_000, 8_000, 30_000];
 const NAMES_HELD: [usize; 5] = [20, 50, 100, 200, 250];
-const BYTES_WITH_NAMES_HELD: usize = 16_000;
-
 const RESULTS: &str = "docs/bench";
 
 fn main() {
@@ -71,7 +69,7 @@ fn sized(kind: &Kind, bytes: usize, lua: &mut Lua) -> Measured {
 }
 
 fn holding(names: usize, lua: &mut Lua) -> Measured {
-    let case = Case::new("typedef", &format!("typedef-holding-{names}"), typedef_holding(names, BYTES_WITH_NAMES_HELD));
+    let case = Case::new("typedef", &format!("typedef-holding-{names}"), typedef_holding(names));
     case.assert_all_accept(lua);
     assert_eq!(case.answer.symbols as usize, names);
     Measured::new(case)

@@ -2,11 +2,11 @@
 
 use yarnspire::figures::grouped;
 use yarnspire::implementations::Implementation::{self, Before, Library, Lpeg, Plain, Reference};
-use yarnspire::inputs::KINDS;
+use yarnspire::inputs::{BYTES_WITH_NAMES_HELD, KINDS};
 
 use crate::picture::{Axis, Frame, Line, Mark, Picture, Style};
 use crate::timing::Measured;
-use crate::{BYTES_WITH_NAMES_HELD, SIZES};
+use crate::SIZES;
 
 fn style(implementation: Implementation) -> Style {
     match implementation {
@@ -54,7 +54,8 @@ pub fn symbols(rows: &[Measured]) -> String {
     let points = |one| rows.iter().map(|row| (row.case.answer.symbols as f64, row.a_step(one))).collect();
     for (i, shown) in [&[Before, Library, Plain][..], &[Reference]].into_iter().enumerate() {
         let lines: Vec<Line> = of_these(shown).map(|one| Line { style: style(one), points: points(one) }).collect();
-        let y = Axis::linear("ns a step", &lines.iter().flat_map(|line| &line.points).map(|point| point.1).collect::<Vec<_>>());
+        let with_room_above = |line: &Line| line.points.iter().map(|point| 1.15 * point.1).collect::<Vec<_>>();
+        let y = Axis::linear("ns a step", &lines.iter().flat_map(with_room_above).collect::<Vec<_>>());
         let frame = Frame { left: 70.0 + 400.0 * i as f64, top: 96.0, width: 310.0, height: 220.0 };
         let names: Vec<&str> = lines.iter().map(|line| line.style.name).collect();
         picture.panel(&names.join(", "), frame, &x, &y, &lines);

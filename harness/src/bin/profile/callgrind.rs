@@ -13,9 +13,9 @@ pub type Instructions = BTreeMap<String, i64>;
 const FILES: &str = "target/bench/callgrind";
 
 /// Those of two calls without those of one: what comes before the first call and after the last is in both.
-pub fn instructions_of_a_call(implementation: Implementation, grammar: &str) -> Instructions {
-    let mut difference = instructions_of(implementation, grammar, 2);
-    for (function, count) in instructions_of(implementation, grammar, 1) {
+pub fn instructions_of_a_call(implementation: Implementation, input: &str) -> Instructions {
+    let mut difference = instructions_of(implementation, input, 2);
+    for (function, count) in instructions_of(implementation, input, 1) {
         *difference.entry(function).or_insert(0) -= count;
     }
     difference.retain(|_, count| *count != 0);
@@ -23,13 +23,13 @@ pub fn instructions_of_a_call(implementation: Implementation, grammar: &str) -> 
 }
 
 /// The instructions of this program while it makes so many calls.
-fn instructions_of(implementation: Implementation, grammar: &str, calls: u32) -> Instructions {
+fn instructions_of(implementation: Implementation, input: &str, calls: u32) -> Instructions {
     fs::create_dir_all(FILES).expect("the folder for what callgrind writes");
-    let file = format!("{FILES}/{}-{grammar}-{calls}", implementation.name().replace(' ', "-"));
+    let file = format!("{FILES}/{}-{input}-{calls}", implementation.name().replace(' ', "-"));
     let own = env::current_exe().expect("this program has a name");
     let mut command = Command::new("valgrind");
     command.args(["--quiet", "--tool=callgrind", &format!("--callgrind-out-file={file}")]);
-    command.arg(own).args([implementation.name(), grammar, &calls.to_string()]);
+    command.arg(own).args([implementation.name(), input, &calls.to_string()]);
     let status = command.stdout(Stdio::null()).status().expect("valgrind runs");
     assert!(status.success(), "valgrind did not end well: {command:?}");
     own_instructions(&fs::read_to_string(file).expect("callgrind wrote its file"))
