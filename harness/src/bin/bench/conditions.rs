@@ -61,8 +61,8 @@ pub fn conditions(load: &str, lua_version: &str) -> String {
 - Plain Rust is one programmer's work. Several designs were tried on these inputs and the fastest was kept, so it is fitted to them a little. What
   helped most is that a single byte is looked at without a call; that the second part of a sequence or a choice runs in the call of the first helped
   less. Steps and depth are counted as 01 says all the same. 01 asks of the library that its evaluator calls itself on child nodes.
-- Where a function lies in memory moves a time by some hundredths, and on some grammars that of plain Rust by nearly a tenth. The two libraries lie in
-  different places of one program: a ratio of before and library within two hundredths of 1 says that they are equal.
+- Where a function lies in memory moves its time, that of plain Rust by up to a tenth on some grammars. Here every function of the libraries and of the Rust
+  code begins at a multiple of 64 bytes (`scripts/measure`), so that equal code takes equal time; in another program it may lie elsewhere.
 - The ratio of library and plain Rust is one of two programs and two compilers: rustc made one, and Rattle with the kit's clang the other.
 - The reference is the readable implementation, not a fast one: it hands the lists of all tables round by value, copies them in nearly every
   step, and carries the switches by which the tests make wrong machines of it. So its time a step grows with the names held. It shows what those
