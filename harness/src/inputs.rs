@@ -213,8 +213,14 @@ fn typedef(bytes: usize) -> Vec<u8> {
     program.end(bytes)
 }
 
+/// How long the texts are in which so many names are held.
+pub const BYTES_WITH_NAMES_HELD: usize = 16_000;
+
+/// What few names are and what many, where the two are compared.
+pub const FEW_AND_MANY: [usize; 2] = [20, 200];
+
 /// 250 typedefs, then variables. The last `names` typedefs are held up to the end; those before stand in scopes of ten, and are dropped.
-pub fn typedef_holding(names: usize, bytes: usize) -> Vec<u8> {
+pub fn typedef_holding(names: usize) -> Vec<u8> {
     let mut program = Declarations::new(4);
     for dropped in 0..250 - names {
         if dropped % 10 == 0 {
@@ -227,10 +233,10 @@ pub fn typedef_holding(names: usize, bytes: usize) -> Vec<u8> {
     for _ in 0..names {
         program.typedef();
     }
-    while program.text.len() + 100 < bytes {
+    while program.text.len() + 100 < BYTES_WITH_NAMES_HELD {
         program.variable();
     }
-    program.end(bytes)
+    program.end(BYTES_WITH_NAMES_HELD)
 }
 
 /// A declaration in the middle begins with a name that is no type.

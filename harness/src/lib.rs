@@ -24,40 +24,78 @@
 //! [`grammar`] and [`listing`] make images. The other modules serve the programs that hold the library against a second implementation.
 
 pub mod answer;
+pub mod before;
 pub mod cases;
+pub mod facts;
+pub mod figures;
 pub mod grammar;
 pub mod harbour;
 pub mod hex;
+pub mod implementations;
 pub mod inputs;
 pub mod listing;
 pub mod plain;
 pub mod random;
 pub mod reference;
 pub mod tally;
+pub mod visits;
 
 pub use answer::{Answer, Numbers, Refusal, Symbol};
 
 extern "C" {
     fn yarnspire_check(image: *const u8, image_len: usize, number: *mut u32, place: *mut u32);
-
-    fn yarnspire_recognise(
-        image: *const u8,
-        image_len: usize,
-        input: *const u8,
-        input_len: usize,
-        steps: u32,
-        depth: u32,
-        room: u32,
-        slots: *mut u32,
-        slots_len: usize,
-        kind: *mut u32,
-        consumed: *mut u32,
-        count: *mut u32,
-        deepest: *mut u32,
-        symbols: *mut u32,
-        place: *mut u32,
-    );
 }
+
+/// The answer of a library's `yarnspire_recognise`, by the name that the function has in its archive.
+macro_rules! answer_of {
+    ($function:ident, $image:expr, $input:expr, $limits:expr, $slots:expr) => {{
+        extern "C" {
+            fn $function(
+                image: *const u8,
+                image_len: usize,
+                input: *const u8,
+                input_len: usize,
+                steps: u32,
+                depth: u32,
+                room: u32,
+                slots: *mut u32,
+                slots_len: usize,
+                kind: *mut u32,
+                consumed: *mut u32,
+                count: *mut u32,
+                deepest: *mut u32,
+                symbols: *mut u32,
+                place: *mut u32,
+            );
+        }
+        let (image, input, limits, slots): (&[u8], &[u8], Limits, &mut [u32]) = ($image, $input, $limits, $slots);
+        let mut answer = Numbers::UNWRITTEN;
+        // Safety: each slice is valid for its length; the slots are lent mutably and the six numbers are fields of their own, so that nothing
+        // that is written overlaps anything else.
+        unsafe {
+            $function(
+                image.as_ptr(),
+                image.len(),
+                input.as_ptr(),
+                input.len(),
+                limits.steps,
+                limits.depth,
+                limits.room,
+                slots.as_mut_ptr(),
+                slots.len(),
+                &mut answer.kind,
+                &mut answer.consumed,
+                &mut answer.steps,
+                &mut answer.depth,
+                &mut answer.symbols,
+                &mut answer.place,
+            )
+        };
+        answer
+    }};
+}
+#[cfg(feature = "before")]
+pub(crate) use answer_of;
 
 /// How far a run may go.
 #[derive(Clone, Copy, Debug, PartialEq, Eq)]
@@ -107,29 +145,7 @@ pub fn recognise(image: &[u8], input: &[u8], limits: Limits, slots: &mut [u32]) 
 
 /// [`recognise`] as the library answers it: six numbers.
 pub fn recognise_numbers(image: &[u8], input: &[u8], limits: Limits, slots: &mut [u32]) -> Numbers {
-    let mut answer = Numbers::UNWRITTEN;
-    // Safety: each slice is valid for its length; the slots are lent mutably and the six numbers are fields of their own, so that nothing
-    // that is written overlaps anything else.
-    unsafe {
-        yarnspire_recognise(
-            image.as_ptr(),
-            image.len(),
-            input.as_ptr(),
-            input.len(),
-            limits.steps,
-            limits.depth,
-            limits.room,
-            slots.as_mut_ptr(),
-            slots.len(),
-            &mut answer.kind,
-            &mut answer.consumed,
-            &mut answer.steps,
-            &mut answer.depth,
-            &mut answer.symbols,
-            &mut answer.place,
-        )
-    };
-    answer
+    answer_of!(yarnspire_recognise, image, input, limits, slots)
 }
 
 /// [`recognise`], and the accepted front of the input beside the answer: a part of the caller's own bytes, empty if nothing is accepted.

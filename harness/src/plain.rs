@@ -3,10 +3,15 @@
 
 mod image;
 mod run;
+mod watch;
+
+pub use run::Symbol;
+pub use watch::{Happening, Watch};
 
 use crate::{Limits, Numbers, Refusal};
 use image::Grammar;
 use run::Run;
+use watch::Nobody;
 
 /// Check's two numbers: those of the first fault, or 0 and 0.
 pub fn check(image: &[u8]) -> (u32, u32) {
@@ -18,8 +23,13 @@ pub fn check(image: &[u8]) -> (u32, u32) {
 
 /// The answer, with the slots left as 01 says.
 pub fn recognise(image: &[u8], input: &[u8], limits: Limits, slots: &mut [u32]) -> Numbers {
+    recognise_watched(image, input, limits, slots, Nobody)
+}
+
+/// [`recognise`], with someone who watches the run.
+pub fn recognise_watched(image: &[u8], input: &[u8], limits: Limits, slots: &mut [u32], watch: impl Watch) -> Numbers {
     match allowed(image, input, limits, slots.len()) {
-        Ok(grammar) => run(&grammar, image, input, limits, &mut slots[..limits.slots()]),
+        Ok(grammar) => run(&grammar, image, input, limits, &mut slots[..limits.slots()], watch),
         Err(refusal) => Numbers { kind: refusal.number, place: refusal.place, ..Numbers::default() },
     }
 }
@@ -40,8 +50,8 @@ fn allowed(image: &[u8], input: &[u8], limits: Limits, slots: usize) -> Result<G
 }
 
 /// Runs the grammar, and writes each of the 3R slots.
-fn run(grammar: &Grammar, image: &[u8], input: &[u8], limits: Limits, slots: &mut [u32]) -> Numbers {
-    let mut run = Run::new(grammar, image, input, limits);
+fn run(grammar: &Grammar, image: &[u8], input: &[u8], limits: Limits, slots: &mut [u32], watch: impl Watch) -> Numbers {
+    let mut run = Run::new(grammar, image, input, limits, watch);
     let outcome = run.begin(grammar.start);
     let mut answer = Numbers { steps: run.steps(), depth: run.deepest(), ..Numbers::default() };
     match outcome {

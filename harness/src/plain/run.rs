@@ -4,6 +4,7 @@
 //! so one that fails undoes nothing: whoever goes on after the failure cuts the store back to that mark.
 
 use super::image::{Grammar, Node};
+use super::watch::{Happening, Watch};
 use crate::{Limits, Refusal};
 
 /// A symbol: a part of the input, held by a table.
@@ -21,7 +22,7 @@ struct Refused;
 type Outcome = Result<Option<usize>, Refused>;
 
 /// A run under way.
-pub struct Run<'a> {
+pub struct Run<'a, W> {
     nodes: &'a [Node],
     patterns: [u16; 8],
     image: &'a [u8],
@@ -35,10 +36,11 @@ pub struct Run<'a> {
     floors: [u16; 8],
     truths: [bool; 8],
     refusal: Refusal,
+    watch: W,
 }
 
-impl<'a> Run<'a> {
-    pub fn new(grammar: &'a Grammar, image: &'a [u8], input: &'a [u8], limits: Limits) -> Run<'a> {
+impl<'a, W: Watch> Run<'a, W> {
+    pub fn new(grammar: &'a Grammar, image: &'a [u8], input: &'a [u8], limits: Limits, watch: W) -> Run<'a, W> {
         Run {
             nodes: &grammar.nodes,
             patterns: grammar.patterns,
@@ -51,6 +53,7 @@ impl<'a> Run<'a> {
             floors: [0; 8],
             truths: [true; 8],
             refusal: Refusal { number: 0, place: 0 },
+            watch,
         }
     }
 
@@ -247,6 +250,9 @@ impl<'a> Run<'a> {
         let mark = self.symbols.len();
         let end = self.eval(body, at, depth)?;
         if end.is_some() {
+            if W::WATCHES {
+                self.watch.sees(Happening::Closed { table, inside: &self.symbols[mark..] });
+            }
             self.drop_from(mark, table);
         }
         Ok(end)
@@ -275,12 +281,20 @@ impl<'a> Run<'a> {
     }
 
     fn latest(&self, table: u8) -> Option<Symbol> {
+        if W::WATCHES {
+            self.watch.sees(Happening::Sought { table, among: self.visible(table) });
+        }
         self.visible(table).iter().rev().find(|symbol| symbol.table == table).copied()
     }
 
     /// Whether some symbol of the table's list has these bytes.
     fn is_listed(&self, table: u8, bytes: &[u8]) -> bool {
-        self.visible(table).iter().any(|symbol| symbol.table == table && self.equal(*symbol, bytes))
+        let among = self.visible(table);
+        let equal = |symbol: &Symbol| symbol.table == table && self.equal(*symbol, bytes);
+        if W::WATCHES {
+            self.watch.sees(Happening::Compared { among, equal: among.iter().rposition(equal) });
+        }
+        among.iter().any(equal)
     }
 
     #[inline]
