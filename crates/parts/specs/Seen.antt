@@ -7,7 +7,7 @@ use native.Mathlib.Omega.{arith}
 use lib.Dec.{eqb, ltb}
 use lib.ListN.{length, take, drop, getD, drop-of-length-le}
 use lib.Seq.{drop-append-le}
-use borrow.Author.Tests.{le-ltb, lt-ltb, ltb-true, ltb-false}
+use borrow.Author.Tests.{eq-eqb, ne-eqb, ltb-true, ltb-false}
 use Rattle.format.specs.Reading.{pick}
 use Rattle.meaning.specs.State.{Symbol, State, Env, ofTable, visible}
 use Rattle.meaning.specs.Scopes.{of-append}
@@ -94,63 +94,38 @@ module _ (table low : ℕ) (slots : List ℕ) (held : ℕ) {seen : ℕ} (e : see
       go true h = h ∙ sym (ap some (seen-front (ltb-true 0 seen h)))
       go false h = h ∙ sym (ap some (seen-none (omega (arith, ltb-false 0 seen h))))
 
--- A search through a table's list, from its latest symbol down: so far none was the same, and what is left of the list begins at `next`.
+-- A walk through a table's list, from the latest symbol down: whether some symbol of it has these bytes.
 module _ (x bytes : List ℕ) (table low : ℕ) (slots : List ℕ) where
-  abbrev found-in : ℕ → Bool
+  abbrev pub found-in : ℕ → Bool
   found-in h = among x bytes (listed table low slots h)
 
-  pub record Searching (held next : ℕ) : Type 0 where
-    pub upto : ℕ
-    pub on : upto ≤ held
-    pub at : Latest table low slots upto next
-    pub left : found-in held ≡ found-in upto
+  -- Nothing is left below the floor.
+  pub look-end : (n : ℕ) → n ≤ low → false ≡ found-in n
+  look-end n l = rw (below-floor table low slots n l)
 
-  pub search-start : {held next : ℕ} → next ≡ latestOf table low held slots → Searching held next
-  search-start {held} e = record {
-    upto = held;
-    on = omega arith;
-    at = subst (Latest table low slots held) (sym e) (latest-is table low slots held);
-    left = refl;
-  }
+  module _ (n : ℕ) (l : low < n) where
+    abbrev here : Symbol
+    here = symbolAt slots (n - 1)
 
-  among-step : (s : Symbol) (l : State) (b : Bool) → same bytes (text x s) ≡ b
-      → among x bytes (s ∷ l) ≡ elim b [ true ↦ true | false ↦ among x bytes l ]
-  among-step s l b e = ap (λ b. elim b [ true ↦ true | false ↦ among x bytes l ]) e
+    step : (b : Bool) → eqb (getD slots ((n - 1) * 3) 0) table ≡ b
+        → found-in n ≡ among x bytes (pick b (here ∷ listed table low slots (n - 1)) (listed table low slots (n - 1)))
+    step b e =
+        let z : n ≡ suc (n - 1) = omega (arith, l) in
+        ap found-in z
+        ∙ ap (among x bytes) (listed-step table low slots (n - 1) (omega (arith, l))
+        ∙ ap (λ b. pick b (here ∷ listed table low slots (n - 1)) (listed table low slots (n - 1))) e)
 
-  at-k : (k : ℕ) {b : Bool} → b ≡ same bytes (text x (symbolAt slots (suc k - 1))) → b ≡ same bytes (text x (symbolAt slots k))
-  at-k k {b} e = let z : suc k - 1 ≡ k = omega arith in subst (λ k. b ≡ same bytes (text x (symbolAt slots k))) z e
+    -- Another table's symbol is passed by.
+    pub look-other : (getD slots ((n - 1) * 3) 0 ≡ table → ⊥) → found-in n ≡ found-in (n - 1)
+    look-other d = step false (ne-eqb (getD slots ((n - 1) * 3) 0) table d)
 
-  pub search-below : {held next : ℕ} → Searching held next → next ≤ held
-  search-below s = omega (arith, latest-below table low slots (s .at), s .on)
+    module _ (own : getD slots ((n - 1) * 3) 0 ≡ table) where
+      among-step : (b : Bool) → b ≡ same bytes (text x here) → found-in n ≡ elim b [ true ↦ true | false ↦ found-in (n - 1) ]
+      among-step b e =
+          step true (eq-eqb (getD slots ((n - 1) * 3) 0) table own) ∙ ap (λ b. elim b [ true ↦ true | false ↦ found-in (n - 1) ]) (sym e)
 
-  -- Where the symbol is the same, it is found;
-  pub search-found : {held next : ℕ} → Searching held next → 0 < next → true ≡ same bytes (text x (symbolAt slots (next - 1))) → true ≡ found-in held
-  search-found s l e = go (s .at) l e ∙ sym (s .left)
-    where
-      go : {h n : ℕ} → Latest table low slots h n → 0 < n → true ≡ same bytes (text x (symbolAt slots (n - 1))) → true ≡ found-in h
-      go (none f) l e = absurd (omega arith)
-      go (found {k} i m f) l e = sym (ap (among x bytes) f ∙ among-step (symbolAt slots k) (listed table low slots k) true (sym (at-k k e)))
+      pub look-found : true ≡ same bytes (text x here) → true ≡ found-in n
+      look-found e = sym (among-step true e)
 
-  -- where it is not, the search goes on below it;
-  pub search-on : {held next later : ℕ} → Searching held next → 0 < next → false ≡ same bytes (text x (symbolAt slots (next - 1)))
-      → later ≡ latestOf table low (next - 1) slots → Searching held later
-  search-on {held} {next} {later} s l e i = record {
-    upto = next - 1;
-    on = omega (arith, search-below s);
-    at = subst (Latest table low slots (next - 1)) (sym i) (latest-is table low slots (next - 1));
-    left = s .left ∙ go (s .at) l e;
-  }
-    where
-      go : {h n : ℕ} → Latest table low slots h n → 0 < n → false ≡ same bytes (text x (symbolAt slots (n - 1))) → found-in h ≡ found-in (n - 1)
-      go (none f) l e = absurd (omega arith)
-      go (found {k} i m f) l e =
-          let z : k ≡ suc k - 1 = omega arith in
-          ap (among x bytes) f ∙ among-step (symbolAt slots k) (listed table low slots k) false (sym (at-k k e)) ∙ ap found-in z
-
-  -- and where no symbol is left, none is the same.
-  pub search-end : {held next : ℕ} → Searching held next → next ≡ 0 → false ≡ found-in held
-  search-end s z = go (s .at) z ∙ sym (s .left)
-    where
-      go : {h n : ℕ} → Latest table low slots h n → n ≡ 0 → false ≡ found-in h
-      go (none f) l = rw f
-      go (found k m f) l = absurd (omega arith)
+      pub look-differs : false ≡ same bytes (text x here) → found-in n ≡ found-in (n - 1)
+      look-differs e = among-step false e

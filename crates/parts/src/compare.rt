@@ -7,7 +7,6 @@ ghost use Rattle.parts.specs.Slots.{symbolAt, Parts};
 ghost use Rattle.parts.specs.Seen.{listed};
 ghost use Rattle.meaning.specs.Inside.{Part};
 use crate::bytes::same;
-use crate::slots::latest;
 
 // Whether the symbol of a number is, byte for byte, what stands in the input from `at` to `to`.
 pub fn is_symbol(input: &[u8], slots: &[u32], number: u32, at: usize, to: usize) -> bool
@@ -36,12 +35,14 @@ pub fn is_listed(
     requires { ⌜ (held ≤ 256) × (held * 3 ≤ length (now slots)) × Parts (length (now input)) held (now slots) × (at ≤ to) × (to ≤ length (now input)) ⌝ }
     ensures { λ r. ⌜ r ≡ among (now (input .entry)) (part (now (input .entry)) at to) (listed table low (now (slots .entry)) held) ⌝ }
 {
-    let mut next = latest(slots, table, low, held);
-    while 0 < next {
-        if is_symbol(input, slots, next - 1, at, to) {
-            return true;
+    let mut next = held;
+    while low < next {
+        next -= 1;
+        if slots[(next * 3) as usize] == table {
+            if is_symbol(input, slots, next, at, to) {
+                return true;
+            }
         }
-        next = latest(slots, table, low, next - 1);
     }
     false
 }
