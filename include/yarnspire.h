@@ -1,7 +1,7 @@
 /*
  * Yarnspire: a recogniser for Nez grammars, proved. The rules are in docs/01-scope.md, called 01 here.
  *
- * Link libyarnspire.a, which scripts/archive makes for x86-64 Linux. The library needs nothing but memset, keeps nothing between calls, and allocates
+ * Link libyarnspire.a, which scripts/archive makes for x86-64 Linux. The library needs nothing but memcpy and memset, keeps nothing between calls, and allocates
  * nothing, so any number of threads may call it. A call takes less than 256 KiB of stack.
  *
  * What a caller owes, for both functions:

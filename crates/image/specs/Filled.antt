@@ -1,5 +1,6 @@
 -- What the walk over an image puts down: an array of 524 numbers, a word for each node at the node's number, and each table's
--- pattern at 512 plus the table's number. The three numbers behind those are left as they are: a caller keeps its limits there.
+-- pattern at 512 plus the table's number. The four numbers behind those are left as they are: a caller keeps its limits and
+-- the image's length there.
 use Prim.Native.Nat.{ℕ, zero, suc, _+_, _<_}
 use mathlib.Core.Path.{_≡_}
 use mathlib.Core.List.{List}

@@ -46,6 +46,7 @@ exprOf image (Local t a) = e.Local t a
 exprOf image (If c truth) = e.If c truth
 exprOf image (On c truth a) = e.On c truth a
 
+-- None is asked for.
 abbrev nothing : Span
 nothing = record { one = false; lo = 0; hi = 0 }
 

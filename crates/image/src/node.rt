@@ -58,13 +58,14 @@ pub fn node_of(word: u32) -> Node
     }
 }
 
-// Whether a node asks for a single byte, and the least and the greatest that it takes.
+// Whether a single byte is asked for, and the least and the greatest that is taken; 0 and 0 where none is asked for.
 pub struct Span {
     pub one: bool,
     pub lo: u8,
     pub hi: u8,
 }
 
+// The single byte that a node asks for.
 pub fn span_of(node: Node) -> Span
     ensures { λ r. ⌜ r ≡ spanOf node ⌝ }
 {

@@ -121,9 +121,9 @@ fn fill_nodes(
     })
 }
 
-// Checks an image and puts down its nodes and patterns: a node's word at its number, a table's pattern at 512 plus its number. The last three
-// numbers, 520 to 522, keep what they held: the evaluator finds the limits of steps, depth and room there. After a refusal what was put down until
-// then stays.
+// Checks an image and puts down its nodes and patterns: a node's word at its number, a table's pattern at 512 plus its number. The last four
+// numbers, 520 to 523, keep what they held: the limits of steps, depth and room stand there, and the image's length. After a refusal what was put down
+// until then stays.
 pub fn load(image: &[u8], code: &mut [u32; 524]) -> Loaded
     requires { ⌜ length (now code) ≡ 524 ⌝ }
     ensures { λ r. ⌜ Loads (now (image .entry)) (now (code .entry)) (now (code .exit)) r ⌝ }

@@ -27,7 +27,7 @@ ofChecked (refused n p) = record { conditions = 0; start = 0; patterns = []; nod
 unfoldable pub grammarOf : (image : List ℕ) → Grammar
 grammarOf image = ofChecked (readImage image)
 
--- The limits stand behind the nodes and patterns: steps, depth, room. Behind them stands how many of the bytes that are lent are the image.
+-- The limits stand behind the nodes and patterns: steps, depth, room.
 abbrev pub stepLimit : (code : List ℕ) → ℕ
 stepLimit code = getD code 520 0
 
@@ -37,6 +37,8 @@ depthLimit code = getD code 521 0
 abbrev pub roomLimit : (code : List ℕ) → ℕ
 roomLimit code = getD code 522 0
 
+-- The image reaches the evaluator at the front of an array of a fixed length. How many of its bytes are the image stands behind the limits; no code
+-- reads that number, but what is promised is said of the image.
 unfoldable pub imageOf : (code bytes : List ℕ) → List ℕ
 imageOf code bytes = take (getD code 523 0) bytes
 
@@ -47,8 +49,9 @@ pub record Coded (image code : List ℕ) (g : Grammar) : Type 0 where
   pub texts : (n : ℕ) → n < size g → InImage image (nodeOf (getD code n 0))
   pub patterns : (t : ℕ) → t < tables g → getD code (512 + t) 0 ≡ pattern g t
 
--- Asked: the limits are within their ranges, at least as many slots as they say are lent, the place is in the input, the tally is within
--- the limits and the depth it names is at least the depth here, and every held symbol is a part of the input.
+-- Asked: the array holds the grammar, the limits are within their ranges, at least as many slots as they say are lent, the input is bytes and at most
+-- 65,535 of them, the place is in the input, the tally is within the limits and the depth it names is at least the depth here, and every held symbol is
+-- a part of the input.
 pub record Ready (code image input slots : List ℕ) (left at held steps depth : ℕ) : Type 0 where
   pub coded : Coded image code (grammarOf image)
   pub few-steps : stepLimit code ≤ 1000000
@@ -91,21 +94,26 @@ starring code image input state left steps depth a p σ =
 
 -- ## With the image in its lent bytes, and what an expression starts from in one number
 
-abbrev pub NodeOf : (code bytes : List ℕ) → ℕ → Type 0
-NodeOf code bytes n = Node (imageOf code bytes) n
+-- A node's number.
+abbrev pub Numbered : (code bytes : List ℕ) → ℕ → Type 0
+Numbered code bytes n = Node (imageOf code bytes) n
 
+-- Asked of what an expression starts from.
 abbrev pub Starts : (code bytes input slots : List ℕ) (left from : ℕ) → Type 0
 Starts code bytes input slots left from =
-    Ready code (imageOf code bytes) input slots left (atOf from) (heldOf from) (stepsOf from) (depthOf from) × (getD code 523 0 ≤ length bytes)
+    Ready code (imageOf code bytes) input slots left (atOf from) (heldOf from) (stepsOf from) (depthOf from)
 
+-- What is to be said of a node, from a place and symbols;
 abbrev pub running : (code bytes input : List ℕ) (state : State) (left steps depth n : ℕ) → ℕ → Symbols → Told
 running code bytes input state left steps depth n p σ =
     telling code (imageOf code bytes) input state left steps depth (node (grammarOf (imageOf code bytes)) n) p σ
 
+-- the same, from one number and the slots;
 abbrev pub saying : (code bytes input : List ℕ) (state : State) (slots : List ℕ) (left from n : ℕ) → Told
 saying code bytes input state slots left from n =
     running code bytes input state left (stepsOf from) (depthOf from) n (atOf from) (symbols (heldOf from) slots)
 
+-- and of a Star's rounds, from one number and the slots.
 abbrev pub repeating : (code bytes input : List ℕ) (state : State) (slots : List ℕ) (left from a : ℕ) → Told
 repeating code bytes input state slots left from a =
     starring code (imageOf code bytes) input state left (stepsOf from) (depthOf from) a (atOf from) (symbols (heldOf from) slots)

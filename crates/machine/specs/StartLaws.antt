@@ -23,11 +23,11 @@ pub record Has (from at held steps depth : ℕ) : Type 0 where
 module _ {from at held steps depth : ℕ} (h : Has from at held steps depth) where
   pub in-parts : (bytes : List ℕ) {code input slots : List ℕ} {left : ℕ} → Starts code bytes input slots left from
       → Ready code (imageOf code bytes) input slots left at held steps depth
-  in-parts bytes s = rw (h .place, h .names, h .spent, h .deepest) (s .0)
+  in-parts bytes s = rw (h .place, h .names, h .spent, h .deepest) s
 
-  pub in-one : (bytes : List ℕ) {code input slots : List ℕ} {left : ℕ} → getD code 523 0 ≤ length bytes
-      → Ready code (imageOf code bytes) input slots left at held steps depth → Starts code bytes input slots left from
-  in-one bytes l r = (rw (sym (h .place), sym (h .names), sym (h .spent), sym (h .deepest)) r, l)
+  pub in-one : (bytes : List ℕ) {code input slots : List ℕ} {left : ℕ} → Ready code (imageOf code bytes) input slots left at held steps depth
+      → Starts code bytes input slots left from
+  in-one bytes r = rw (sym (h .place), sym (h .names), sym (h .spent), sym (h .deepest)) r
 
   -- What is said of the one is said of the other.
   module _ (F : (at held steps depth : ℕ) → Told) {before after : List ℕ} {r : ℕ} where

@@ -1,13 +1,14 @@
-// The evaluator: a node is run by running the nodes inside it, with one less of depth left at each call.
+// The evaluator: a node is run by running the nodes inside it, each with one less of depth left. `eval` and `inside` together are the evaluator; every
+// node that stands inside another is entered through `eval`.
 //
-// Every node is entered through `eval`. What an expression starts from, and what it passes to, is one number: the place, the symbols held, and the tally
-// of steps and greatest depth. `entered` charges the tally, and nothing else does. Nothing below the symbols held on entering is ever written, so
-// what fails needs no undoing.
+// What an expression starts from, and what it passes to, is one number: the place, the symbols held, and the tally of steps and greatest depth.
+// `entered` charges the tally, and nothing else does. `slots` is the run's own store, of which the caller's slots get what it holds at the end. Nothing
+// below the symbols held on entering is ever written, so what fails needs no undoing.
 ghost use Prim.Native.Nat.{_+_, _<_, _≤_};
-ghost use Rattle.parts.specs.Packed.{atOf, heldOf, stepsOf, depthOf};
+ghost use Rattle.parts.specs.Packed.{atOf, heldOf, stepsOf};
 ghost use Rattle.parts.specs.Slots.{symbols};
 ghost use Rattle.machine.specs.Told.{andThen, orElse};
-ghost use Rattle.machine.specs.Ready.{stepLimit, depthLimit, Starts, NodeOf, Done, running, saying, repeating};
+ghost use Rattle.machine.specs.Ready.{stepLimit, depthLimit, Starts, Numbered, Done, running, saying, repeating};
 use image::node::Node;
 use image::node::node_of;
 use image::node::span_of;
@@ -40,8 +41,9 @@ use parts::outcome::stopped;
 use parts::slots::latest;
 use tally::entered;
 
-// Enters a node and runs it. The array `code` holds a word for each node, each table's pattern, the limits of steps, depth and room, and how many of the
-// bytes lent are the image's. A single byte is looked at on the spot, if its depth was reached before; all else is run by a call.
+// Enters a node and runs it. The array `code` holds a word for each node, each table's pattern, the limits of steps, depth and room, and, for the promise
+// alone, how many of the bytes lent are the image's. A single byte is looked at on the spot if its depth was reached before, so that only the place and the
+// steps change; all else is run by a call.
 pub fn eval(
     code: &[u32; 524],
     image: &[u8; 16384],
@@ -52,7 +54,7 @@ pub fn eval(
     node: u32,
     from: u64,
 ) -> u64
-    requires { ⌜ Starts (now code) (now image) (now input) (now slots) left from × NodeOf (now code) (now image) node ⌝ }
+    requires { ⌜ Starts (now code) (now image) (now input) (now slots) left from × Numbered (now code) (now image) node ⌝ }
     ensures { λ r. ⌜ Done (heldOf from) (now (slots .entry)) (now (slots .exit)) r
         (saying (now (code .entry)) (now (image .entry)) (now (input .entry)) state (now (slots .entry)) left from node) ⌝ }
 {
@@ -71,14 +73,14 @@ pub fn eval(
             let at = at_of(from);
             let ok = within(input, at as usize, span.lo, span.hi);
             let tally = entered(spent, deepest, 0);
-            let now = passed(at, held_of(from), tally.steps, tally.depth);
-            return onward(ok, now);
+            let charged = passed(at, held_of(from), tally.steps, tally.depth);
+            return onward(ok, charged);
         }
     }
     inside(code, image, input, slots, state, left, node, from)
 }
 
-// Runs a node of any kind. That a step and a depth are left is asked; the tally is not charged yet.
+// Charges the entry and runs a node of any kind; a single byte comes here at a depth that is new. A step and a depth must be left.
 pub fn inside(
     code: &[u32; 524],
     image: &[u8; 16384],
@@ -89,7 +91,7 @@ pub fn inside(
     node: u32,
     from: u64,
 ) -> u64
-    requires { ⌜ Starts (now code) (now image) (now input) (now slots) left from × NodeOf (now code) (now image) node × (stepsOf from < stepLimit (now code)) × (1 ≤ left) ⌝ }
+    requires { ⌜ Starts (now code) (now image) (now input) (now slots) left from × Numbered (now code) (now image) node × (stepsOf from < stepLimit (now code)) × (1 ≤ left) ⌝ }
     ensures { λ r. ⌜ Done (heldOf from) (now (slots .entry)) (now (slots .exit)) r
         (saying (now (code .entry)) (now (image .entry)) (now (input .entry)) state (now (slots .entry)) left from node) ⌝ }
 {
@@ -99,10 +101,10 @@ pub fn inside(
     let tally = entered(steps_of(from), depth_of(from), code[521] - below);
     let steps = tally.steps;
     let depth = tally.depth;
-    let now = passed(at, held, steps, depth);
+    let charged = passed(at, held, steps, depth);
     let kind = node_of(code[node as usize]);
     match kind {
-        Node::Empty => now,
+        Node::Empty => charged,
         Node::Byte(b) => given(within(input, at as usize, b, b), at + 1, held, steps, depth),
         Node::Range(lo, hi) => given(
             within(input, at as usize, lo, hi),
@@ -119,17 +121,17 @@ pub fn inside(
             steps,
             depth,
         ),
-        Node::Sequence(a, b) => sequence(code, image, input, slots, state, below, a, b, now),
-        Node::Choice(a, b) => choice(code, image, input, slots, state, below, a, b, now),
-        Node::Star(a) => star(code, image, input, slots, state, below, a, now),
+        Node::Sequence(a, b) => sequence(code, image, input, slots, state, below, a, b, charged),
+        Node::Choice(a, b) => choice(code, image, input, slots, state, below, a, b, charged),
+        Node::Star(a) => star(code, image, input, slots, state, below, a, charged),
         Node::Not(a) => {
-            let r = eval(code, image, input, slots, state, below, a, now);
+            let r = eval(code, image, input, slots, state, below, a, charged);
             negated(at, held, r)
         }
-        Node::Call(a) => eval(code, image, input, slots, state, below, a, now),
+        Node::Call(a) => eval(code, image, input, slots, state, below, a, charged),
         Node::Def(t) => {
             let pattern = code[(512 + t) as usize];
-            let r = eval(code, image, input, slots, state, below, pattern, now);
+            let r = eval(code, image, input, slots, state, below, pattern, charged);
             defined(code[522], slots, t, at, held, r)
         }
         Node::Match(t) => {
@@ -145,7 +147,7 @@ pub fn inside(
                 return failed(steps, depth);
             }
             let pattern = code[(512 + t) as usize];
-            let r = eval(code, image, input, slots, state, below, pattern, now);
+            let r = eval(code, image, input, slots, state, below, pattern, charged);
             is_latest(input, slots, seen - 1, at, held, r)
         }
         Node::Isa(t) => {
@@ -155,7 +157,7 @@ pub fn inside(
                 return failed(steps, depth);
             }
             let pattern = code[(512 + t) as usize];
-            let r = eval(code, image, input, slots, state, below, pattern, now);
+            let r = eval(code, image, input, slots, state, below, pattern, charged);
             is_some(input, slots, t, low, at, held, r)
         }
         Node::Exists(t) => {
@@ -163,18 +165,18 @@ pub fn inside(
             given(0 < seen, at, held, steps, depth)
         }
         Node::Block(t, a) => {
-            let r = eval(code, image, input, slots, state, below, a, now);
+            let r = eval(code, image, input, slots, state, below, a, charged);
             closed(slots, t, held, r)
         }
         Node::Local(t, a) => {
             let hidden = with_floor(state, t, held);
-            let r = eval(code, image, input, slots, hidden, below, a, now);
+            let r = eval(code, image, input, slots, hidden, below, a, charged);
             closed(slots, t, held, r)
         }
         Node::If(c, w) => given(truth(state, c) == w, at, held, steps, depth),
         Node::On(c, w, a) => {
             let switched = with_truth(state, c, w);
-            let r = eval(code, image, input, slots, switched, below, a, now);
+            let r = eval(code, image, input, slots, switched, below, a, charged);
             restored(held, r)
         }
     }
@@ -192,7 +194,7 @@ fn sequence(
     b: u32,
     from: u64,
 ) -> u64
-    requires { ⌜ Starts (now code) (now image) (now input) (now slots) left from × NodeOf (now code) (now image) a × NodeOf (now code) (now image) b ⌝ }
+    requires { ⌜ Starts (now code) (now image) (now input) (now slots) left from × Numbered (now code) (now image) a × Numbered (now code) (now image) b ⌝ }
     ensures { λ r. ⌜ Done (heldOf from) (now (slots .entry)) (now (slots .exit)) r
         (andThen (saying (now (code .entry)) (now (image .entry)) (now (input .entry)) state (now (slots .entry)) left from a)
         (λ q τ s d. running (now (code .entry)) (now (image .entry)) (now (input .entry)) state left s d b q τ)) ⌝ }
@@ -223,7 +225,7 @@ fn choice(
     b: u32,
     from: u64,
 ) -> u64
-    requires { ⌜ Starts (now code) (now image) (now input) (now slots) left from × NodeOf (now code) (now image) a × NodeOf (now code) (now image) b ⌝ }
+    requires { ⌜ Starts (now code) (now image) (now input) (now slots) left from × Numbered (now code) (now image) a × Numbered (now code) (now image) b ⌝ }
     ensures { λ r. ⌜ Done (heldOf from) (now (slots .entry)) (now (slots .exit)) r
         (orElse (saying (now (code .entry)) (now (image .entry)) (now (input .entry)) state (now (slots .entry)) left from a)
         (λ s d. running (now (code .entry)) (now (image .entry)) (now (input .entry)) state left s d b (atOf from) (symbols (heldOf from) (now (slots .entry))))) ⌝ }
@@ -252,7 +254,7 @@ fn star(
     a: u32,
     from: u64,
 ) -> u64
-    requires { ⌜ Starts (now code) (now image) (now input) (now slots) left from × NodeOf (now code) (now image) a × (left + 1 ≤ depthLimit (now code)) ⌝ }
+    requires { ⌜ Starts (now code) (now image) (now input) (now slots) left from × Numbered (now code) (now image) a × (left + 1 ≤ depthLimit (now code)) ⌝ }
     ensures { λ r. ⌜ Done (heldOf from) (now (slots .entry)) (now (slots .exit)) r
         (repeating (now (code .entry)) (now (image .entry)) (now (input .entry)) state (now (slots .entry)) left from a) ⌝ }
 {

@@ -1,7 +1,7 @@
 -- An outcome in one number: place in 16 bits, symbols held in 9, depth in 9, steps in 26, and the kind above them. So a passed outcome is less than
 -- 2 ^ 60, and is at once the number that the next expression starts from.
 use Prim.Native.Nat.{ℕ, _+_, _*_, _/_, _%_}
-use lib.Dec.{eqb, ltb}
+use lib.Dec.{ltb}
 use Rattle.format.specs.Reading.{pick}
 use Rattle.parts.specs.declared.outcome.Outcome.{Outcome}
 use Rattle.parts.specs.declared.outcome.Outcome.the-variants.{Passed, Failed, Refused}
@@ -9,12 +9,7 @@ use Rattle.parts.specs.declared.outcome.Outcome.the-variants.{Passed, Fa
 abbrev pub packed : (kind at held steps depth : ℕ) → ℕ
 packed kind at held steps depth = at + held * 65536 + depth * 33554432 + steps * 17179869184 + kind * 1152921504606846976
 
--- By its kind: 0 passed, 1 failed, else the refusal's number.
-abbrev pub ofKind : (kind at held steps depth : ℕ) → Outcome
-ofKind kind at held steps depth =
-    pick (eqb kind 0) (Passed at held steps depth) (pick (eqb kind 1) (Failed steps depth) (Refused kind at steps depth))
-
--- What a passed outcome has of each.
+-- What a number has of each part, but of the steps only a passed one.
 unfoldable pub atOf : ℕ → ℕ
 atOf r = r % 65536
 
@@ -27,6 +22,7 @@ depthOf r = r / 33554432 % 512
 unfoldable pub stepsOf : ℕ → ℕ
 stepsOf r = r / 17179869184
 
+-- By its kind, which is above 2 ^ 60: 0 passed, 1 failed, else the refusal's number.
 unfoldable pub openedOf : ℕ → Outcome
 openedOf r =
     pick (ltb r 1152921504606846976) (Passed (atOf r) (heldOf r) (stepsOf r) (depthOf r))

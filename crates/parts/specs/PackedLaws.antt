@@ -5,11 +5,11 @@ use mathlib.Core.Bool.{Bool, true, false}
 use native.Mathlib.Omega.{arith}
 use native.Mathlib.Nat.{div-add-mod', mod-lt}
 use lib.Dec.{ltb}
-use borrow.Author.Tests.{lt-ltb, le-ltb, eq-eqb, ne-eqb, ltb-true}
+use borrow.Author.Tests.{lt-ltb, le-ltb}
 use Rattle.format.specs.Reading.{pick}
 use Rattle.parts.specs.declared.outcome.Outcome.{Outcome}
 use Rattle.parts.specs.declared.outcome.Outcome.the-variants.{Passed, Failed, Refused}
-use Rattle.parts.specs.Packed.{packed, ofKind, atOf, heldOf, stepsOf, depthOf, openedOf}
+use Rattle.parts.specs.Packed.{packed, atOf, heldOf, stepsOf, depthOf, openedOf}
 
 -- ## Shut and opened
 

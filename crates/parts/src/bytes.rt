@@ -1,4 +1,4 @@
-// Bytes of the input, one and many.
+// Bytes of the input and of the image, one and many.
 ghost use mathlib.Core.Path.{_≡_};
 ghost use mathlib.Core.List.{_++_};
 ghost use Prim.Native.Nat.{_+_, _≤_};

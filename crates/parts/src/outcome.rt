@@ -1,4 +1,4 @@
-// What an expression comes to, in one number.
+// What an expression comes to, and what it starts from, in one number.
 ghost use mathlib.Core.Path.{_≡_};
 ghost use mathlib.Core.Bool.{true};
 ghost use Prim.Native.Nat.{_+_, _≤_, _<_};
@@ -59,7 +59,7 @@ pub fn refused(number: u32, place: u32, steps: u32, depth: u32) -> u64
     shut(number, place, 0, steps, depth)
 }
 
-// What was shut, opened.
+// What a number is opened to.
 pub fn opened(r: u64) -> Outcome
     ensures { λ o. ⌜ o ≡ openedOf r ⌝ }
 {

@@ -1,5 +1,5 @@
 // The slot buffer: three numbers a held symbol (table, start, end), oldest first. A caller that keeps its own number of held symbols keeps
-// those symbols: nothing below it is ever written.
+// those symbols: neither `store` nor `close` writes below it.
 ghost use mathlib.Core.Path.{_≡_};
 ghost use Prim.Native.Nat.{_+_, _-_, _*_, _≤_};
 ghost use mathlib.Core.List.{_++_};
@@ -55,7 +55,7 @@ pub fn close(slots: &mut [u32], table: u32, mark: u32, held: u32) -> u32
     to
 }
 
-// The first n numbers of others.
+// Puts the first n numbers of others at the front of the slots.
 pub fn fill(slots: &mut [u32], others: &[u32], n: usize)
     requires { ⌜ (n ≤ length (now slots)) × (n ≤ length (now others)) ⌝ }
     ensures { λ _. ⌜ now (slots .exit) ≡ take n (now (others .entry)) ++ drop n (now (slots .entry)) ⌝ }

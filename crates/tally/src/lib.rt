@@ -30,7 +30,7 @@ fn charge(tally: &mut Tally, depth: u32)
     tally.depth = greater(tally.depth, depth);
 }
 
-// The tally after one step more, at a depth; a later round of a Star, which adds no depth, is at depth 0.
+// The tally after one step more, at a depth; at depth 0 where no new depth is entered: a later round of a Star, or an entry no deeper than one before.
 pub fn entered(spent: u32, deepest: u32, depth: u32) -> Tally
     requires { ⌜ spent < 1000000 ⌝ }
     ensures { λ r. ⌜ r ≡ record { steps = spent + 1; depth = max deepest depth } ⌝ }

@@ -21,7 +21,7 @@ use Rattle.kinds.specs.declared.state.State as st
 use Rattle.kinds.specs.Held.{envOf}
 use Rattle.kinds.specs.Turned.{Bounds}
 use Rattle.machine.specs.Told.{carry, tells}
-use Rattle.machine.specs.Ready.{imageOf, grammarOf, stepLimit, depthLimit, roomLimit, Ready, Node as Numbered, NodeOf, Starts, readBack, Done, telling, running, saying}
+use Rattle.machine.specs.Ready.{imageOf, grammarOf, stepLimit, depthLimit, roomLimit, Ready, Node, Numbered, Starts, readBack, Done, telling, running, saying}
 use Rattle.machine.specs.ReadyLaws.{bounds-of}
 use Rattle.machine.specs.StartLaws.{Has, in-one, as-parts}
 use Rattle.yarnspire.specs.declared.answer.Answer as face
@@ -169,7 +169,7 @@ module _ {code image input slots : List ℕ} {start : ℕ} (runs : Runs code ima
     parts = λ s m. elim m [ ];
   }
 
-  start-numbered : Numbered image start
+  start-numbered : Node image start
   start-numbered = subst (λ n. n < size g) (sym (runs .begins)) (runs .coded .sound .start-named)
 
   -- The number that it starts from has nothing in any part.
@@ -185,20 +185,12 @@ module _ {code image input slots : List ℕ} {start : ℕ} (runs : Runs code ima
         ap (λ n. take n bytes) (runs .counted) ∙ ap (take (length image)) held
         ∙ take-at image (drop (length image) (replicate 16384 0)) (length image) refl
 
-    long-enough : getD code 523 0 ≤ length bytes
-    long-enough =
-        omega (
-          arith,
-          runs .counted,
-          ap length held ∙ length-append image (drop (length image) (replicate 16384 0)),
-        )
-
-    pub start-asks : Starts code bytes input store (depthLimit code) 0 × NodeOf code bytes start × (stepsOf 0 < stepLimit code) × (1 ≤ depthLimit code)
+    pub start-asks : Starts code bytes input store (depthLimit code) 0 × Numbered code bytes start × (stepsOf 0 < stepLimit code) × (1 ≤ depthLimit code)
     unfolding stepsOf
     start-asks =
         let q = sym lent-image in (
-          in-one start-has bytes long-enough (subst (λ i. Ready code i input store (depthLimit code) 0 0 0 0) q start-ready),
-          subst (λ i. Numbered i start) q start-numbered,
+          in-one start-has bytes (subst (λ i. Ready code i input store (depthLimit code) 0 0 0 0) q start-ready),
+          subst (λ i. Node i start) q start-numbered,
           omega (arith, runs .ranges .some-steps),
           runs .ranges .some-depth,
         )

@@ -1,4 +1,4 @@
--- How a run ends: the answer that an outcome gives, and what the slots keep.
+-- How a run ends: the answer that an outcome gives, and what the slots get.
 use Prim.Native.Nat.{ℕ, _-_, _*_, _≤_}
 use mathlib.Core.Path.{_≡_}
 use mathlib.Core.List.{List, _++_}
@@ -15,18 +15,19 @@ use Rattle.yarnspire.specs.Answer.{sixOf, Listed}
 use Rattle.yarnspire.specs.declared.answer.Answer.{Answer}
 use Rattle.yarnspire.specs.declared.answer.Answer.the-variants.{Accepted, Failed, Refused}
 
+-- The answer that an outcome gives.
 abbrev pub answerFor : o.Outcome → Answer
 answerFor (ov.Passed a h s d) = Accepted a s d h
 answerFor (ov.Failed s d) = Failed s d
 answerFor (ov.Refused n p s d) = Refused n p s d
 
--- How many slot numbers are kept.
+-- How many slot numbers are handed over.
 abbrev pub keptOf : o.Outcome → ℕ
 keptOf (ov.Passed a h s d) = h * 3
 keptOf (ov.Failed s d) = 0
 keptOf (ov.Refused n p s d) = 0
 
--- The symbols of an outcome lie in the slots.
+-- The symbols of an outcome fit the slots.
 abbrev pub Kept : (long : ℕ) → o.Outcome → Type 0
 Kept long (ov.Passed a h s d) = (h ≤ 256) × (h * 3 ≤ long)
 Kept long (ov.Failed s d) = Unit {0}
@@ -49,6 +50,7 @@ leftBy R (ran (pass n τ) c) = flat τ ++ replicate (3 * R - 3 * length τ) 0
 leftBy R (ran fail c) = replicate (3 * R) 0
 leftBy R (refused number place c) = replicate (3 * R) 0
 
+-- What the run from the start comes to.
 abbrev pub resultOf : (code image input : List ℕ) → Result
 resultOf code image input = fromStart (grammarOf image) input (stepLimit code) (depthLimit code) (roomLimit code)
 

@@ -71,7 +71,8 @@ pub fn recognise(
     if slots.len() < lent {
         return refuse(11, 0);
     }
-    // The limits stand behind the nodes and patterns, and behind them how many bytes the image has.
+    // The limits stand behind the nodes and patterns. The last number, how many bytes the image has, is read by no code: the evaluator's promise needs
+    // it, since the image reaches the evaluator in an array of a fixed length.
     code[520] = steps;
     code[521] = depth;
     code[522] = room;

@@ -82,7 +82,8 @@ fn ended(slots: &mut [u32], store: &[u32; 768], r: u64) -> Answer
 }
 
 // Runs the start node from the input's start, with every condition true and no symbol held. The evaluator works on arrays of a fixed length, which
-// reach it without a length beside them: the image's bytes, and a store with room for every symbol that may be held.
+// reach it without a length beside them: the image's bytes, and a store with room for every symbol that may be held. The limits' ranges leave a step and
+// a depth, so the start node needs no look at them.
 pub(crate) fn run(
     code: &[u32; 524],
     image: &[u8],

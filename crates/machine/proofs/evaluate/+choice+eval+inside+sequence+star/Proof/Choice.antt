@@ -46,7 +46,7 @@ module _ (t : ℕ) where
       let s = c .before .before .before .before .before .before .before .before .before in let a = s .args in
       let n = node (grammarOf (imageOf (a .code .now) (a .image .now))) (a .a) in
       let e = sym (c .before .before .before .before .before .opened .ensures) ∙ c .before .before .before .first .given .1 in
-      let l = s .pre .1 .0 .0 in
+      let l = s .pre .1 .0 in
       let b = subst (Bounds (length (a .input .now)) (atOf (a .from)) (heldOf (a .from)) (roomLimit (a .code .now))) e (bounds-of (a .state) n l (c .before .before .before .before .before .before .eval .ensures)) in
       (omega (arith, c .before .at-of .ensures, l .place, l .short), omega (arith, c .held-of .ensures, l .room, l .small-room), b .0, b .1)
 
@@ -56,7 +56,7 @@ module _ (t : ℕ) where
       let n = node (grammarOf (imageOf (a .code .now) (a .image .now))) (a .a) in
       let e = sym (c .before .before .before .before .before .before .before .opened .ensures) ∙ c .before .before .before .before .before .first .given .1 in
       let h = has-passed-as (c .before .passed .result) (c .before .passed .ensures) (c .before .before .before .at-of .ensures) (c .before .before .held-of .ensures) in
-      (omega (arith, s .pre .0), (in-one h (a .image .now) (s .pre .1 .0 .1) (ready-back (a .state) n (s .pre .1 .0 .0) (c .before .before .before .before .before .before .before .before .eval .ensures) e), s .pre .1 .2))
+      (omega (arith, s .pre .0), (in-one h (a .image .now) (ready-back (a .state) n (s .pre .1 .0) (c .before .before .before .before .before .before .before .before .eval .ensures) e), s .pre .1 .2))
 
   pub returns-2 : lts.Need-returns-2 (choice-claims t) (choice-at t) choice.Post
   returns-2 c =

@@ -59,22 +59,22 @@ module _ (t : ℕ) where
   element-copy-out-if1 c = search needs
 
   pub stopped-requires : lts.Need-stopped-requires (eval-claims t) (eval-at t) eval.Post
-  stopped-requires c κs = let r = c .before .before .before .before .pre .1 .0 .0 in (omega arith, omega arith, omega (arith, r .spent, r .few-steps))
+  stopped-requires c κs = let r = c .before .before .before .before .pre .1 .0 in (omega arith, omega arith, omega (arith, r .spent, r .few-steps))
 
   pub returns : lts.Need-returns (eval-claims t) (eval-at t) eval.Post
-  returns c = let s = c .before .before .before .before .before in refuses-steps (s .pre .1 .0 .0) (s .args .state) (s .args .node) (omega (arith, c .before .if1 .taken, c .before .before .before .steps-of .ensures)) (c .stopped .ensures)
+  returns c = let s = c .before .before .before .before .before in refuses-steps (s .pre .1 .0) (s .args .state) (s .args .node) (omega (arith, c .before .if1 .taken, c .before .before .before .steps-of .ensures)) (c .stopped .ensures)
 
   pub stopped-requires-2 : lts.Need-stopped-requires-2 (eval-claims t) (eval-at t) eval.Post
-  stopped-requires-2 c κs = let r = c .before .before .before .before .before .pre .1 .0 .0 in (omega arith, omega arith, omega (arith, r .spent, r .few-steps))
+  stopped-requires-2 c κs = let r = c .before .before .before .before .before .pre .1 .0 in (omega arith, omega arith, omega (arith, r .spent, r .few-steps))
 
   pub returns-2 : lts.Need-returns-2 (eval-claims t) (eval-at t) eval.Post
-  returns-2 c = let s = c .before .before .before .before .before .before in refuses-depth (s .pre .1 .0 .0) (s .args .state) (s .args .node) (omega (arith, c .before .before .if1 .left, c .before .before .before .before .steps-of .ensures)) (c .before .if2 .taken) (c .stopped2 .ensures)
+  returns-2 c = let s = c .before .before .before .before .before .before in refuses-depth (s .pre .1 .0) (s .args .state) (s .args .node) (omega (arith, c .before .before .if1 .left, c .before .before .before .before .steps-of .ensures)) (c .before .if2 .taken) (c .stopped2 .ensures)
 
   pub mul-node-of : lts.Need-mul-node-of (eval-claims t) (eval-at t) eval.Post
   mul-node-of c = search needs
 
   pub element-copy-out-node-of : lts.Need-element-copy-out-node-of (eval-claims t) (eval-at t) eval.Post
-  element-copy-out-node-of c = let p = c .before .before .before .before .before .pre .1 in omega (arith, p .1, p .0 .0 .coded .sound .few-nodes)
+  element-copy-out-node-of c = let p = c .before .before .before .before .before .pre .1 in omega (arith, p .1, p .0 .coded .sound .few-nodes)
 
   pub node-of-requires : lts.Need-node-of-requires (eval-claims t) (eval-at t) eval.Post
   node-of-requires c κs = search needs
@@ -89,10 +89,10 @@ module _ (t : ℕ) where
   element-copy-out-if4 c = search needs
 
   pub sub-if4 : lts.Need-sub-if4 (eval-claims t) (eval-at t) eval.Post
-  sub-if4 c = let r = c .before .before .before .before .before .before .before .before .before .before .before .pre .1 .0 .0 in omega (arith, c .before .before .before .before .before .before .if2 .left)
+  sub-if4 c = let r = c .before .before .before .before .before .before .before .before .before .before .before .pre .1 .0 in omega (arith, c .before .before .before .before .before .before .if2 .left)
 
   pub sub-if4-2 : lts.Need-sub-if4-2 (eval-claims t) (eval-at t) eval.Post
-  sub-if4-2 c = let r = c .before .before .before .before .before .before .before .before .before .before .before .pre .1 .0 .0 in omega (arith, r .deep)
+  sub-if4-2 c = let r = c .before .before .before .before .before .before .before .before .before .before .before .pre .1 .0 in omega (arith, r .deep)
 
   pub at-of-requires : lts.Need-at-of-requires (eval-claims t) (eval-at t) eval.Post
   at-of-requires c κs = search needs
@@ -104,7 +104,7 @@ module _ (t : ℕ) where
   within-requires c κs = search needs
 
   pub entered-requires : lts.Need-entered-requires (eval-claims t) (eval-at t) eval.Post
-  entered-requires c κs = let r = c .before .before .before .before .before .before .before .before .before .before .before .before .before .before .pre .1 .0 .0 in omega (arith, c .before .before .before .before .before .before .before .before .before .before .if1 .left, r .few-steps)
+  entered-requires c κs = let r = c .before .before .before .before .before .before .before .before .before .before .before .before .before .before .pre .1 .0 in omega (arith, c .before .before .before .before .before .before .before .before .before .before .if1 .left, r .few-steps)
 
   pub held-of-requires : lts.Need-held-of-requires (eval-claims t) (eval-at t) eval.Post
   held-of-requires c κs = search needs

@@ -80,7 +80,7 @@ module _ (t : ℕ) where
 
     -- What stands inside starts there, and what is said of it is said in its parts.
     starts : let a = start .args in Starts (a .code .now) (a .image .now) (a .input .now) (a .slots .now) (a .left - 1) now
-    starts = in-one next (start .args .image .now) (start .pre .1 .0 .1) (below entry)
+    starts = in-one next (start .args .image .now) (below entry)
 
     inner : (state : State) (n : ℕ) {after : List ℕ} {r : ℕ} → let a = start .args in
         Done (heldOf now) (a .slots .now) after r (saying (a .code .now) (a .image .now) (a .input .now) state (a .slots .now) (a .left - 1) now n)
@@ -114,14 +114,14 @@ module _ (t : ℕ) where
   element-copy-out-entered c = search needs
 
   pub sub-entered : lts.Need-sub-entered (inside-claims t) (inside-at t) inside.Post
-  sub-entered c = let r = c .before .before .before .before .before .before .pre .1 .0 .0 in omega (arith, r .deep)
+  sub-entered c = let r = c .before .before .before .before .before .before .pre .1 .0 in omega (arith, r .deep)
 
   pub entered-requires : lts.Need-entered-requires (inside-claims t) (inside-at t) inside.Post
-  entered-requires c κs = let s = c .before .before .before .before .before .before in omega (arith, c .before .before .steps-of .ensures, s .pre .1 .2, s .pre .1 .0 .0 .few-steps)
+  entered-requires c κs = let s = c .before .before .before .before .before .before in omega (arith, c .before .before .steps-of .ensures, s .pre .1 .2, s .pre .1 .0 .few-steps)
 
   pub passed-requires : lts.Need-passed-requires (inside-claims t) (inside-at t) inside.Post
   passed-requires c κs =
-      let s = c .before .before .before .before .before .before .before in let r = s .pre .1 .0 .0 in let e = c .entered .ensures in (
+      let s = c .before .before .before .before .before .before .before in let r = s .pre .1 .0 in let e = c .entered .ensures in (
         omega (arith, c .before .before .before .before .before .at-of .ensures, r .place, r .short),
         omega (arith, c .before .before .before .before .held-of .ensures, r .room, r .small-room),
         omega (arith, ap (λ (t : Tally). t .steps) e, c .before .before .before .steps-of .ensures, s .pre .1 .2, r .few-steps),
@@ -132,7 +132,7 @@ module _ (t : ℕ) where
   mul-node-of c = search needs
 
   pub element-copy-out-node-of : lts.Need-element-copy-out-node-of (inside-claims t) (inside-at t) inside.Post
-  element-copy-out-node-of c = let p = c .before .before .before .before .before .before .before .before .pre .1 in omega (arith, p .1, p .0 .0 .coded .sound .few-nodes)
+  element-copy-out-node-of c = let p = c .before .before .before .before .before .before .before .before .pre .1 in omega (arith, p .1, p .0 .coded .sound .few-nodes)
 
   pub node-of-requires : lts.Need-node-of-requires (inside-claims t) (inside-at t) inside.Post
   node-of-requires c κs = search needs

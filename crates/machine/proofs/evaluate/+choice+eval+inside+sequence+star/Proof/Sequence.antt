@@ -38,13 +38,13 @@ module _ (t : ℕ) where
       let s = c .before .before .before .before .before .before .before in let a = s .args in
       let n = node (grammarOf (imageOf (a .code .now) (a .image .now))) (a .a) in
       let e = opened-parts (c .before .before .before .before .eval .result) (sym (c .before .before .before .opened .ensures) ∙ c .before .enum-told .given .1) in
-      (omega (arith, s .pre .0), ((ready-next (a .state) n (s .pre .1 .0 .0) (c .before .before .before .before .eval .ensures) e, s .pre .1 .0 .1), s .pre .1 .2))
+      (omega (arith, s .pre .0), (ready-next (a .state) n (s .pre .1 .0) (c .before .before .before .before .eval .ensures) e, s .pre .1 .2))
 
   pub returns-2 : lts.Need-returns-2 (sequence-claims t) (sequence-at t) sequence.Post
   returns-2 c =
       let s = c .before .before .before .before .before .before .before .before in let a = s .args in
       let n = node (grammarOf (imageOf (a .code .now) (a .image .now))) (a .a) in
       let e = opened-parts (c .before .before .before .before .before .eval .result) (sym (c .before .before .before .before .opened .ensures) ∙ c .before .before .enum-told .given .1) in
-      let b = bounds-of (a .state) n (s .pre .1 .0 .0) (c .before .before .before .before .before .eval .ensures) in
+      let b = bounds-of (a .state) n (s .pre .1 .0) (c .before .before .before .before .before .eval .ensures) in
       then-go (c .before .before .before .before .before .eval .ensures) (λ q τ s d. running (a .code .now) (a .image .now) (a .input .now) (a .state) (a .left) s d (a .b) q τ)
       e (subst (Bounds (length (a .input .now)) (atOf (a .from)) (heldOf (a .from)) (roomLimit (a .code .now))) e b .2) (c .eval2 .ensures)

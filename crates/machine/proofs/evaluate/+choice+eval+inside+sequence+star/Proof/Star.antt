@@ -32,10 +32,10 @@ module _ (t : ℕ) where
   pub loop-holds : lts.Need-loop-holds (star-claims t) (star-at t) star.Post Inv-loop μ-loop
   loop-holds c =
       let s = c .before in let a = s .args in
-      rounds-start (a .code .now) (imageOf (a .code .now) (a .image .now)) (a .input .now) (a .slots .now) (a .state) (a .left) (a .a) (atOf (a .from)) (heldOf (a .from)) (stepsOf (a .from)) (depthOf (a .from)) (s .pre .1 .0 .0)
+      rounds-start (a .code .now) (imageOf (a .code .now) (a .image .now)) (a .input .now) (a .slots .now) (a .state) (a .left) (a .a) (atOf (a .from)) (heldOf (a .from)) (stepsOf (a .from)) (depthOf (a .from)) (s .pre .1 .0)
 
   pub eval-requires : lts.Need-eval-requires (star-claims t) (star-at t) star.Post Inv-loop μ-loop
-  eval-requires c κs = let s = c .before .before .before in (omega (arith, s .pre .0), ((c .before .loop .inv .ready, s .pre .1 .0 .1), s .pre .1 .1))
+  eval-requires c κs = let s = c .before .before .before in (omega (arith, s .pre .0), (c .before .loop .inv .ready, s .pre .1 .1))
 
   pub opened-requires : lts.Need-opened-requires (star-claims t) (star-at t) star.Post Inv-loop μ-loop
   opened-requires c κs = search needs
