@@ -59,8 +59,9 @@ pub fn conditions(load: &str, lua_version: &str) -> String {
 ## What the figures do not say
 
 - Plain Rust is one programmer's work. Several designs were tried on these inputs and the fastest was kept, so it is fitted to them a little. What
-  helped most is that a single byte is looked at without a call; that the second part of a sequence or a choice runs in the call of the first helped
-  less. Steps and depth are counted as 01 says all the same. 01 asks of the library that its evaluator calls itself on child nodes.
+  helped most is that a single byte is looked at without a call, which the library does too; that the second part of a sequence or a choice runs in the
+  call of the first helped less. Steps and depth are counted as 01 says all the same. 01 asks of the library that its evaluator calls itself on child
+  nodes, that the state goes by value, and that one tally is carried; docs/landings/07-speed.md has what each of these costs.
 - Where a function lies in memory moves its time, that of plain Rust by up to a tenth on some grammars. Here every function of the libraries and of the Rust
   code begins at a multiple of 64 bytes (`scripts/measure`), so that equal code takes equal time; in another program it may lie elsewhere.
 - The ratio of library and plain Rust is one of two programs and two compilers: rustc made one, and Rattle with the kit's clang the other.
