@@ -14,6 +14,7 @@ use Rattle.kinds.specs.Turned.{givenOf}
 use Rattle.machine.specs.Told.{Told}
 use Rattle.machine.specs.Ready.{imageOf, Ready, Starts, Done}
 
+-- A number has these parts.
 pub record Has (from at held steps depth : ℕ) : Type 0 where
   pub place : at ≡ atOf from
   pub names : held ≡ heldOf from
@@ -40,12 +41,12 @@ module _ {from at held steps depth : ℕ} (h : Has from at held steps depth) whe
     as-one d = rw (sym (h .place), sym (h .names), sym (h .spent), sym (h .deepest)) d
 
 -- A passed outcome, as the number that is started from next.
-pub has-passed : (r : ℕ) {a h s d : ℕ} → openedOf r ≡ Passed a h s d → Has r a h s d
-has-passed r e = let p = has-parts r e in record { place = p .0; names = p .1; spent = p .2; deepest = p .3 }
-
 pub has-passed-as : (r : ℕ) {a h a′ h′ s d : ℕ} → openedOf r ≡ Passed a h s d → a ≡ a′ → h ≡ h′ → Has r a′ h′ s d
 has-passed-as r e i j =
     let p = has-parts r e in record { place = sym i ∙ p .0; names = sym j ∙ p .1; spent = p .2; deepest = p .3 }
+
+pub has-passed : (r : ℕ) {a h s d : ℕ} → openedOf r ≡ Passed a h s d → Has r a h s d
+has-passed r e = has-passed-as r e refl refl
 
 -- One byte further, in its parts.
 pub onward-given : (now : ℕ) {at held steps depth : ℕ} (ok : Bool) (q : ℕ) → Has now at held steps depth
