@@ -5,6 +5,8 @@ mod grammars;
 mod inputs;
 mod maker;
 
+pub use grammars::LETTERS;
+pub use inputs::input;
 pub use maker::Maker;
 
 use crate::reference::{self, Fault, Trace};

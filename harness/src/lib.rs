@@ -26,6 +26,8 @@
 pub mod answer;
 pub mod before;
 pub mod cases;
+#[cfg(feature = "compile")]
+pub mod compiled;
 pub mod facts;
 pub mod figures;
 pub mod grammar;
@@ -34,10 +36,13 @@ pub mod hex;
 pub mod implementations;
 pub mod inputs;
 pub mod listing;
+pub mod notation;
+pub mod outcome;
 pub mod plain;
 pub mod random;
 pub mod reference;
 pub mod tally;
+pub mod texts;
 pub mod visits;
 
 pub use answer::{Answer, Numbers, Refusal, Symbol};
