@@ -10,7 +10,7 @@ use Rattle.notation.specs.LexicalGap.{Gives, gives, gap-sound}
 use Rattle.notation.specs.LexicalText.{Yields, yields}
 use Rattle.notation.specs.LexicalToken.{token-sound}
 use Rattle.notation.specs.Lexer.{Piece, piece, no, Skipped, past, unclosed, gap, token, lexed, lexemes}
-use Rattle.lexer.proofs.ShorterLaws.{gap-shorter, token-shorter}
+use Rattle.notation.specs.TextLaws.{gap-shorter, token-shorter}
 
 abbrev at : List ℕ → Token → Lexeme
 at s t = record { here = s; token = t }

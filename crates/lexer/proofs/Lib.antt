@@ -8,8 +8,6 @@ pub mod GapLaws
 pub mod NameLaws
 -- Words, a byte at a time.
 pub mod WordLaws
--- Each token takes a byte.
-pub mod ShorterLaws
 -- The lexemes of a text, by its front.
 pub mod LexemeLaws
 -- The token that begins at a place, by its first byte.

@@ -2,7 +2,7 @@
 //
 // `token_from` is what reads a text. `gap_from` skips the blanks and comments before a token and in it.
 pub mod gap;
-mod name;
+pub mod name;
 mod operator;
 pub mod token;
 mod word;

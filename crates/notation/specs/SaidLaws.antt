@@ -23,7 +23,7 @@ use Rattle.notation.specs.LexicalText.{no-way}
 use Rattle.notation.specs.Stream.{streamed}
 use Rattle.notation.specs.Reader.{trees, came, Parsed, reads, unread as unparsed, parsed}
 use Rattle.notation.specs.Text.{ReadsAs}
-use Rattle.notation.specs.TextLaws.{taken, derived, unique, lexes-once}
+use Rattle.notation.specs.TextLaws.{taken, derived, one-reading, lexes-once}
 use Rattle.notation.specs.Naming.{allDefined, onceNamed, onePattern}
 use Rattle.notation.specs.Limits.{fits}
 use Rattle.notation.specs.Compile.{compile}
@@ -59,7 +59,7 @@ one-answer (read h r) (too-long k) = absurd (omega arith)
 one-answer (read h r) (unread k s) = absurd (no-stop r s)
 one-answer {text} {room} (read {ps = ps} h r) (read {ps = qs} k t) =
     let same-lexemes : r .lexemes ≡ t .lexemes = sym (lexes-once (r .lexes)) ∙ lexes-once (t .lexes) in
-    ap (λ ps. judged text room ps (r .lexemes)) (unique text ps qs r t) ∙ ap (λ ls. judged text room qs ls) same-lexemes
+    ap (λ ps. judged text room ps (r .lexemes)) (one-reading text ps qs r t) ∙ ap (λ ls. judged text room qs ls) same-lexemes
 
 -- ## Each refusal that is due is given, and each text that is taken
 

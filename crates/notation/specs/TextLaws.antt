@@ -32,7 +32,7 @@ block-shorter shuts = omega arith
 block-shorter (starred n k) = let h = block-shorter k in omega arith
 block-shorter (goes-on n k) = let h = block-shorter k in omega arith
 
-gap-shorter : {s r : List ℕ} → Gap s r → length r ≤ length s
+pub gap-shorter : {s r : List ℕ} → Gap s r → length r ≤ length s
 gap-shorter (nothing d) = omega arith
 gap-shorter (white e g) = let h = gap-shorter g in omega arith
 gap-shorter (line l g) = let h = gap-shorter g in let k = line-shorter l in omega arith
@@ -66,7 +66,7 @@ then-truth (behind g negated) = let h = gap-shorter g in omega arith
 then-truth (behind g (plain n)) = gap-shorter g
 then-truth (behind g plain-end) = gap-shorter g
 
-token-shorter : {t : Token} {s r : List ℕ} → Spelled t s r → length r < length s
+pub token-shorter : {t : Token} {s r : List ℕ} → Spelled t s r → length r < length s
 token-shorter (a-head N S) = let h = named-shorter N in let k = then-sign S in omega arith
 token-shorter (a-call N g m) = let h = named-shorter N in let k = gap-shorter g in omega arith
 token-shorter a-dot = omega arith
@@ -235,9 +235,9 @@ pub derived : (text : List ℕ) (ps : List Production) → parsed (tokens text) 
 derived text ps e = let P = parsed-exact (tokens text) ps .0 e in record { lexemes = lexemes text; lexes = lexed-of P; derives = P }
 
 -- TAKEN EXACTLY IF DERIVED.
-pub exact : (text : List ℕ) (ps : List Production) → (parsed (tokens text) ≡ reads ps) ↔ ReadsAs text ps
-exact text ps = (derived text ps, taken text ps)
+pub reads-exactly : (text : List ℕ) (ps : List Production) → (parsed (tokens text) ≡ reads ps) ↔ ReadsAs text ps
+reads-exactly text ps = (derived text ps, taken text ps)
 
 -- ONE READING.
-pub unique : (text : List ℕ) (ps qs : List Production) → ReadsAs text ps → ReadsAs text qs → ps ≡ qs
-unique text ps qs r t = cc (taken text ps r, taken text qs t)
+pub one-reading : (text : List ℕ) (ps qs : List Production) → ReadsAs text ps → ReadsAs text qs → ps ≡ qs
+one-reading text ps qs r t = cc (taken text ps r, taken text qs t)
