@@ -1,7 +1,7 @@
--- Where the reading stops: at one place, and only in tokens that are not of the notation; in those it does. And what the walk over the tokens has
--- to do with it: from wherever it stands the tokens can be gone on with.
-use Prim.Native.Nat.{ℕ, suc, _+_, _≤_, _<_}
-use mathlib.Core.Path.{_≡_, refl, ap, sym, _∙_, subst}
+-- Where the reading stops: at one place, and exactly in tokens that are not of the notation. And what the walk over the tokens has to do with it:
+-- from wherever it stands, the tokens can be gone on with.
+use Prim.Native.Nat.{ℕ, suc, _≤_, _<_}
+use mathlib.Core.Path.{_≡_, refl, ap, sym, _∙_}
 use mathlib.Core.Bool.{Bool, true, false}
 use mathlib.Core.Logic.{_↔_}
 use mathlib.Core.List.{List, [], _∷_, _++_, append-assoc, append-nil}
@@ -11,11 +11,10 @@ use lib.Dec.{ltb}
 use lib.ListN.{length, take, drop, length-append, length-drop, take-append-drop}
 use lib.Seq.{append-snoc, take-append-seam, take-append-add, take-length, take-take}
 use borrow.Author.Tests.{ltb-true, ltb-false}
-use Rattle.format.specs.Reading.{pick}
 use Rattle.notation.specs.Tree.{Name, any, sequence, choice, Production}
 use Rattle.notation.specs.Token.{Token, head, leaf, opens, closes, left, right, slash, before, after, bad}
 use Rattle.notation.specs.Notation.{Productions}
-use Rattle.notation.specs.Stream.{Stream, _▸_, ended, broken, Pending, bracket, angle, waits, half, Closing, item, alternative, end, close, whole, inBracket, inAngle, Mode, start, want, behind, stream, streamed}
+use Rattle.notation.specs.Stream.{Symbol, Stream, _▸▸_, Pending, bracket, angle, waits, half, Closing, item, alternative, end, close, whole, inBracket, inAngle, Mode, start, want, behind, stream, streamed}
 use Rattle.notation.specs.StreamLaws.{next, closes-prefix, closes-row, closes-choice}
 use Rattle.notation.specs.Lexer.{lexemes}
 use Rattle.notation.specs.LexicalText.{no-way}
@@ -96,7 +95,13 @@ onward start σ = (head [] ∷ leaf any ∷ [], closes-all [])
 onward want σ = (leaf any ∷ endings σ, closes-all σ)
 onward behind σ = (endings σ, closes-all σ)
 
--- The walk took these tokens and stands here: it comes to what follows, whatever that is.
+-- What is put out on the way does not matter.
+pub came-on : (ss : List Symbol) (r : Stream) → came (ss ▸▸ r) ≡ came r
+unfolding came _▸▸_
+came-on [] r = refl
+came-on (s ∷ ss) r = came-on ss r
+
+-- The walk has taken these tokens and stands here: whatever follows, the whole comes to what that comes to from here.
 abbrev pub Leads : List Token → Mode → List Pending → Type 0
 Leads pre m σ = (us : List Token) → came (streamed (pre ++ us)) ≡ came (stream us m σ)
 
@@ -108,7 +113,7 @@ pub leads-one :
     → Leads (pre ++ t ∷ []) m σ
 leads-one pre t m σ f us = rw (append-snoc pre t us) (f us)
 
--- ## Where it stops
+-- ## Where nothing goes on, the reading stops
 
 never : {ts : List Token} {ps : List Production} → came (streamed ts) ≡ false → Productions ts ps → ⊥
 never e P = let z = derived-came P in no-way (cc)
