@@ -30,6 +30,7 @@ module _ (t : List ℕ) (at : ℕ) where
         ends = λ a. omega arith;
         named = λ a b. absurd (omega arith);
         name-inside = λ a b. omega arith;
+        parted = λ a. absurd (omega arith);
       })
 
   module _ (n : ℕ) (e : gap (drop at t) ≡ past (drop n t)) where
@@ -47,6 +48,7 @@ module _ (t : List ℕ) (at : ℕ) where
           ends = λ _. refl;
           named = λ a b. absurd (omega arith);
           name-inside = λ a b. omega arith;
+          parted = λ a. absurd (omega arith);
         })
 
     -- A token begins, or what is none.
@@ -83,4 +85,5 @@ module _ (t : List ℕ) (at : ℕ) where
             ends = λ k. omega (arith, b .one);
             named = λ _ k. b .named k ∙ rw s;
             name-inside = λ _ k. b .name-inside k;
+            parted = rw s (b .parted);
           }

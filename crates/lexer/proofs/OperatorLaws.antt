@@ -171,6 +171,7 @@ module _ (t : List ℕ) {start k at : ℕ} (o : OperatorAt t start k at) where
               within = λ _. n .inside;
               named = λ _. name-here;
               name-inside = λ _. omega (arith, n .longer, n .inside);
+              parted = λ z. absurd (omega arith);
             })
 
         pub query-begins : {q : ℕ} {r : Token} → r ≡ made 5 k w start p q → k < 10
@@ -189,6 +190,7 @@ module _ (t : List ℕ) {start k at : ℕ} (o : OperatorAt t start k at) where
               within = λ _. y .2;
               named = λ _. name-here;
               name-inside = λ _. omega (arith, n .longer, n .inside);
+              parted = λ _ z. absurd (omega arith);
             })
 
 module _ (t : List ℕ) (start : ℕ) (h : start < length t) (b : getD t start 0 ≡ 60) where

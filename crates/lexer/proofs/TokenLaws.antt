@@ -1,18 +1,21 @@
 -- The token that begins at a place, by its first byte.
 use Prim.Native.Nat.{ℕ, _+_, _≤_, _<_}
 use mathlib.Core.Path.{_≡_, refl, ap, sym, _∙_}
-use mathlib.Core.Bool.{true}
+use mathlib.Core.Bool.{Bool, true, false}
 use mathlib.Core.Logic.{_⊎_, inl, inr, ⊎-elim}
-use mathlib.Core.List.{List}
+use mathlib.Core.List.{List, [], _∷_}
 use native.Mathlib.Omega.{arith}
+use lib.Dec.{eqb}
 use lib.ListN.{drop, length, getD, drop-of-length-le}
 use borrow.Author.Tests.{eq-eqb, ne-eqb}
 use Rattle.notation.specs.Bytes.{letter}
 use Rattle.notation.specs.Token.{leaf}
-use Rattle.notation.specs.Tree.{quoted}
-use Rattle.notation.specs.Lexer.{piece, no, _then_, past, unclosed, gap, namedHere, fresh, quote, classHere, token}
+use Rattle.notation.specs.Tree.{Part, quoted}
+use Rattle.notation.specs.LexicalText.{no-way}
+use Rattle.notation.specs.Token as N
+use Rattle.notation.specs.Lexer.{Piece, piece, no, _then_, past, unclosed, gap, namedHere, fresh, quote, begin, parts, classed, classHere, token}
 use Rattle.notation.specs.LexicalToken.{tokenOf}
-use Rattle.notation.specs.At.{nameAt, quotedOf, partsOf, nameIn}
+use Rattle.notation.specs.At.{value, nameAt, quotedOf, partsOf, nameIn}
 use Rattle.chars.specs.Meant.{QuoteEnds, ClassEnds}
 use Rattle.chars.specs.declared.written.End.{End}
 use Rattle.chars.specs.declared.written.End.the-variants.{Behind, Open}
@@ -31,6 +34,18 @@ abbrev NoSign : ℕ → Type 0
 NoSign b =
     (((((((((Unit × Not b 46) × Not b 62) × Not b 40) × Not b 41) × Not b 47) × Not b 38) × Not b 33) × Not b 63) × Not b 42) × Not b 43
 
+-- A class has parts.
+class-parted : (s : List ℕ) {x : N.Token} {r : List ℕ} → classHere s ≡ piece x r → value (parts begin fresh s) ≡ [] → ⊥
+unfolding classHere classed
+class-parted [] e = absurd (no-way (cc))
+class-parted (b ∷ s) {x} {r} e = go (eqb b 94) (parts begin fresh (b ∷ s)) refl refl
+  where
+    go : (z : Bool) (p : Piece (List Part)) → eqb b 94 ≡ z → parts begin fresh (b ∷ s) ≡ p → value (parts begin fresh (b ∷ s)) ≡ [] → ⊥
+    go true p i j k = let y : no ≡ piece x r = rw i at e in no-way (cc)
+    go false no i j k = let y : no ≡ piece x r = rw (i, j) at e in no-way (cc)
+    go false (piece [] v) i j k = let y : no ≡ piece x r = rw (i, j) at e in no-way (cc)
+    go false (piece (q ∷ qs) v) i j k = let y : q ∷ qs ≡ [] = rw j at k in no-way (cc)
+
 module _ (t : List ℕ) (start : ℕ) where
   -- Where no token begins.
   pub no-token : {r : Token} → r ≡ noToken start → tokenOf (drop start t) ≡ no → Begins t start r
@@ -45,6 +60,7 @@ module _ (t : List ℕ) (start : ℕ) where
         within = λ l. omega arith;
         named = λ l. absurd (omega arith);
         name-inside = λ l. omega arith;
+        parted = λ l. absurd (omega arith);
       })
 
   module _ (h : start < length t) where
@@ -57,11 +73,12 @@ module _ (t : List ℕ) (start : ℕ) where
     front-named f = rw (at-place t start h, ne-eqb (getD t start 0) 60 f)
 
     -- A token that is no operator.
-    simple-begins : (k s next : ℕ) {r : Token} → r ≡ simple k s start next → (1 ≤ k) × (k ≤ 10) × Numbers k s → (getD t start 0 ≡ 60 → ⊥)
+    simple-begins : (k s next : ℕ) {r : Token} → r ≡ simple k s start next → (1 ≤ k) × (k ≤ 10) × Numbers k s
+        → (s ≡ 3 → partsOf (drop start t) ≡ [] → ⊥) → (getD t start 0 ≡ 60 → ⊥)
         → (start < next) × (next ≤ length t) → token (getD t start 0) (drop (start + 1) t) ≡ piece (meant t (simple k s start next)) (drop next t)
         → Begins t start r
     unfolding given
-    simple-begins k s next e n f l g =
+    simple-begins k s next e n p f l g =
         rw e (record {
           here = refl;
           goes = byte-here ∙ g ∙ rw (ne-eqb k 11 (λ z. omega arith));
@@ -71,13 +88,14 @@ module _ (t : List ℕ) (start : ℕ) where
           within = λ _. l .1;
           named = λ _. front-named f;
           name-inside = λ _. omega arith;
+          parted = λ _. p;
         })
 
     -- A token of one byte.
-    pub sign-begins : (b k s : ℕ) {r : Token} → getD t start 0 ≡ b → r ≡ simple k s start (start + 1) → (1 ≤ k) × (k ≤ 10) × Numbers k s
+    pub sign-begins : (b k s : ℕ) {r : Token} → getD t start 0 ≡ b → r ≡ simple k s start (start + 1) → (1 ≤ k) × (k ≤ 10) × Numbers k s × (s ≡ 3 → ⊥)
         → (b ≡ 60 → ⊥) → token b (drop (start + 1) t) ≡ piece (meant t (simple k s start (start + 1))) (drop (start + 1) t) → Begins t start r
     sign-begins b k s e f n o g =
-        simple-begins k s (start + 1) f n (λ z. o (sym e ∙ z)) (omega arith) (ap (λ b. token b (drop (start + 1) t)) e ∙ g)
+        simple-begins k s (start + 1) f (n .0, n .1, n .2) (λ z. absurd (n .3 z)) (λ z. o (sym e ∙ z)) (omega arith) (ap (λ b. token b (drop (start + 1) t)) e ∙ g)
 
     -- A byte that begins no token.
     pub no-sign : Single (getD t start 0) → {r : Token} → r ≡ noToken start → NoSign (getD t start 0)
@@ -125,20 +143,20 @@ module _ (t : List ℕ) (start : ℕ) where
         unfolding namedHere meant leafAt
         call-last m n g =
             let j = k .onward in
-            simple-begins 5 4 i g (omega arith) no-operator (omega arith) (name-here ∙ rw (e, drop-of-length-le t m))
+            simple-begins 5 4 i g (omega arith) (λ z. absurd (omega arith)) no-operator (omega arith) (name-here ∙ rw (e, drop-of-length-le t m))
 
         module _ (m : i < length t) where
           pub call-here : (getD t i 0 ≡ 61 → ⊥) → r ≡ simple 5 4 start i → Begins t start r
           unfolding namedHere meant leafAt
           call-here n g =
               let j = k .onward in
-              simple-begins 5 4 i g (omega arith) no-operator (omega arith) (name-here ∙ rw (e, at-place t i m, ne-eqb (getD t i 0) 61 n))
+              simple-begins 5 4 i g (omega arith) (λ z. absurd (omega arith)) no-operator (omega arith) (name-here ∙ rw (e, at-place t i m, ne-eqb (getD t i 0) 61 n))
 
           pub head-here : getD t i 0 ≡ 61 → r ≡ simple 1 0 start (i + 1) → Begins t start r
           unfolding namedHere meant
           head-here n g =
               let j = k .onward in
-              simple-begins 1 0 (i + 1) g (omega arith) no-operator (omega arith) (name-here ∙ rw (e, at-place t i m, eq-eqb (getD t i 0) 61 n))
+              simple-begins 1 0 (i + 1) g (omega arith) (λ z. absurd (omega arith)) no-operator (omega arith) (name-here ∙ rw (e, at-place t i m, eq-eqb (getD t i 0) 61 n))
 
     -- ## Quoted text and classes
 
@@ -152,7 +170,7 @@ module _ (t : List ℕ) (start : ℕ) where
       unfolding ended _then_ meant leafAt quotedOf
       quote-begins Open f g = no-token g (byte-here ∙ quote-here ∙ rw f)
       quote-begins (Behind n) f g =
-          simple-begins 5 2 n g (omega arith) (λ z. ⊎-elim (λ x. omega arith) (λ x. omega arith) e) (omega arith)
+          simple-begins 5 2 n g (omega arith) (λ z. absurd (omega arith)) (λ z. ⊎-elim (λ x. omega arith) (λ x. omega arith) e) (omega arith)
           (quote-here ∙ rw (at-place t start h, f .0))
 
     module _ (e : getD t start 0 ≡ 91) where
@@ -164,4 +182,4 @@ module _ (t : List ℕ) (start : ℕ) where
       unfolding ended meant leafAt partsOf
       class-begins Open f g = no-token g (byte-here ∙ class-byte ∙ f)
       class-begins (Behind n) f g =
-          simple-begins 5 3 n g (omega arith) (λ z. omega arith) (omega arith) (class-byte ∙ rw (at-place t start h) (f .0))
+          simple-begins 5 3 n g (omega arith) (λ _. rw (at-place t start h) (class-parted (drop (start + 1) t) (f .0))) (λ z. omega arith) (omega arith) (class-byte ∙ rw (at-place t start h) (f .0))

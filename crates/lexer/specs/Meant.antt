@@ -61,7 +61,7 @@ Numbers k s =
     (k ≤ 11) × (k ≡ 5 → (1 ≤ s) × (s ≤ 9)) × (k ≡ 6 → (10 ≤ s) × (s ≤ 13)) × (k ≡ 10 → (17 ≤ s) × (s ≤ 19))
 
 -- What is promised of the token at a place: it is the front of the lexemes there; it begins there or further on, in the text, and a byte at
--- least belongs to it, where it is one; its name is the one that stands in it.
+-- least belongs to it, where it is one; its name is the one that stands in it; a class has parts.
 pub record Lexed (text : List ℕ) (at : ℕ) (t : Token) : Type 0 where
   pub goes : lexemes (drop at text) ≡ ahead text t
   pub numbers : Numbers (t .kind) (t .symbol)
@@ -72,3 +72,4 @@ pub record Lexed (text : List ℕ) (at : ℕ) (t : Token) : Type 0 where
   pub ends : t .kind ≡ 0 → t .start ≡ length text
   pub named : 1 ≤ t .kind → t .kind ≤ 10 → drop (t .name) text ≡ nameIn (drop (t .start) text)
   pub name-inside : 1 ≤ t .kind → t .kind ≤ 10 → t .name ≤ length text
+  pub parted : t .kind ≡ 5 → t .symbol ≡ 3 → partsOf (drop (t .start) text) ≡ [] → ⊥

@@ -4,7 +4,7 @@ use Prim.Native.Char.{code}
 use mathlib.Core.Path.{_≡_}
 use mathlib.Core.Bool.{Bool, false}
 use mathlib.Core.Logic.{_⊎_}
-use mathlib.Core.List.{List}
+use mathlib.Core.List.{List, []}
 use lib.Dec.{eqb}
 use lib.ListN.{drop, length}
 use Rattle.format.specs.Reading.{pick}
@@ -12,7 +12,7 @@ use Rattle.notation.specs.Bytes.{letter}
 use Rattle.notation.specs.Token as N
 use Rattle.notation.specs.Lexer.{Piece, piece, no}
 use Rattle.notation.specs.LexicalToken.{tokenOf}
-use Rattle.notation.specs.At.{nameIn}
+use Rattle.notation.specs.At.{partsOf, nameIn}
 use Rattle.chars.specs.declared.written.End.{End}
 use Rattle.chars.specs.declared.written.End.the-variants.{Behind, Open}
 use Rattle.lexer.specs.declared.token.Token.{Token}
@@ -57,3 +57,4 @@ pub record Begins (text : List ℕ) (start : ℕ) (t : Token) : Type 0 where
   pub within : t .kind ≤ 10 → t .next ≤ length text
   pub named : t .kind ≤ 10 → drop (t .name) text ≡ nameIn (drop start text)
   pub name-inside : t .kind ≤ 10 → t .name ≤ length text
+  pub parted : t .kind ≡ 5 → t .symbol ≡ 3 → partsOf (drop start text) ≡ [] → ⊥

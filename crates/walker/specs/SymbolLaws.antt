@@ -70,18 +70,16 @@ pub symbol-plain : (text : List ℕ) (n : ℕ) (t : Token) → 14 ≤ n → symb
 unfolding symbolAt
 symbol-plain text n t l = rw (ne-eqb n 0 (λ z. omega arith), le-ltb n 10 (omega arith), le-ltb n 14 l)
 
--- THE NUMBER OF A SYMBOL IS ITS KIND, where a token was taken for it; a class has parts.
-pub symbol-kind :
-    (text : List ℕ) (n : ℕ) (t : Token) → n ≤ 21 → (n ≤ 14 → Taken text n t) → (n ≡ 3 → partsOf (drop (t .start) text) ≡ [] → ⊥)
-    → Naming.kind (symbolAt text n t) ≡ n
+-- THE NUMBER OF A SYMBOL IS ITS KIND, where a token was taken for it.
+pub symbol-kind : (text : List ℕ) (n : ℕ) (t : Token) → n ≤ 21 → (n ≤ 14 → Taken text n t) → Naming.kind (symbolAt text n t) ≡ n
 unfolding symbolAt
-symbol-kind text n t l T P = go (eqb n 0) (ltb n 10) (ltb n 14) refl refl refl
+symbol-kind text n t l T = go (eqb n 0) (ltb n 10) (ltb n 14) refl refl refl
   where
     go : (a b c : Bool) → eqb n 0 ≡ a → ltb n 10 ≡ b → ltb n 14 ≡ c → Naming.kind (symbolAt text n t) ≡ n
     go true b c p q r = rw p (sym (eqb-true n 0 p))
     go false true c p q r =
-        let z = eqb-false n 0 p in let h = ltb-true n 10 q in let e = T (omega arith) .leaf (omega arith) (omega arith) .1 in
-        rw (p, q) (leaf-kind text t (λ z. P (sym e ∙ z)) (omega arith) (omega arith) ∙ e)
+        let z = eqb-false n 0 p in let h = ltb-true n 10 q in let k = T (omega arith) in let e = k .leaf (omega arith) (omega arith) in
+        rw (p, q) (leaf-kind text t (k .lexed .parted (e .0)) (omega arith) (omega arith) ∙ e .1)
     go false false true p q r =
         let h = ltb-false n 10 q in let k = ltb-true n 14 r in let e = T (omega arith) .opener h (omega arith) .1 in
         rw (p, q, r) (opener-kind text t (omega arith) (omega arith) ∙ e)
