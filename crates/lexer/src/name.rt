@@ -51,7 +51,7 @@ pub(crate) fn in_name(text: &[u8], i: usize) -> bool
 }
 
 // The place behind the bytes of a name.
-pub(crate) fn name_end(text: &[u8], from: usize) -> usize
+pub fn name_end(text: &[u8], from: usize) -> usize
     ensures { λ r. ⌜ NameEnds (now (text .entry)) from r ⌝ }
 {
     let mut i = from;
