@@ -1,0 +1,19 @@
+-- Laws that the proofs of the functions cite.
+pub mod PickLaws
+pub mod StepLaws
+pub mod ToldLaws
+pub mod GatherLaws
+pub mod WhereLaws
+pub mod SeekLaws
+pub mod FrontLaws
+pub mod LeafLaws
+pub mod UndefinedLaws
+pub mod WeightLaws
+pub mod HeadLaws
+pub mod EndLaws
+pub mod OverLaws
+pub mod ImageLaws
+pub mod PlaceLaws
+pub mod FillLaws
+pub mod FirstLaws
+pub mod RootLaws

@@ -1,0 +1,10 @@
+-- What the passes over a text's tokens promise.
+pub mod Found
+pub mod Told
+pub mod Gathered
+pub mod ShorterLaws
+pub mod GatheredLaws
+pub mod UndefinedLaws
+pub mod Sized
+pub mod SizedLaws
+pub mod Rooted
