@@ -1,0 +1,58 @@
+-- `put_groups` meets its promise. Assumes nothing.
+use mathlib.Core.Path.{ap, sym}
+use native.Mathlib.Omega.{arith}
+use lib.ListN.{length}
+use Rattle.writer.specs.PutLaws.{wrote-on, wrote-as, two-small, two-large}
+use borrow.Author.Needs.{needs}
+use Rattle.writer.proofs.out.put_groups.Statement.{statement}
+use Rattle.writer.proofs.out.put_groups.Tie as tie
+
+cast-put-byte : tie.Need-cast-put-byte
+cast-put-byte c = search needs
+
+put-byte-requires : tie.Need-put-byte-requires
+put-byte-requires c κs = omega (arith, ap length (two-small (c .before .before .before .args .n) (omega arith)), c .before .before .before .pre)
+
+same-length : tie.Need-same-length
+same-length c = search needs
+
+returns : tie.Need-returns
+returns c = wrote-as (sym (two-small (c .before .before .before .before .before .before .args .n) (omega arith))) (c .before .before .put-byte .ensures)
+
+add-put-byte : tie.Need-add-put-byte
+add-put-byte c = search needs
+
+cast-put-byte-2 : tie.Need-cast-put-byte-2
+cast-put-byte-2 c = search needs
+
+put-byte-requires-2 : tie.Need-put-byte-requires-2
+put-byte-requires-2 c κs = omega (arith, ap length (two-large (c .before .before .before .args .n) (omega arith)), c .before .before .before .pre)
+
+cast-put-byte-3 : tie.Need-cast-put-byte-3
+cast-put-byte-3 c = search needs
+
+put-byte-requires-3 : tie.Need-put-byte-requires-3
+put-byte-requires-3 c κs = let w = c .before .before .before .put-byte2 .ensures in
+    omega (arith, ap length (two-large (c .before .before .before .before .before .before .before .args .n) (omega arith)), c .before .before .before .before .before .before .before .pre, w .place, w .long)
+
+same-length-2 : tie.Need-same-length-2
+same-length-2 c = search needs
+
+returns-2 : tie.Need-returns-2
+returns-2 c = wrote-as (sym (two-large (c .before .before .before .before .before .before .before .before .before .before .args .n) (omega arith))) (wrote-on (c .before .before .before .before .before .before .put-byte2 .ensures) (c .before .before .put-byte3 .ensures))
+
+pub put-groups-spec : {M : Type 1} → statement M
+put-groups-spec =
+    tie.close
+    (tie.spec
+    cast-put-byte
+    put-byte-requires
+    same-length
+    returns
+    add-put-byte
+    cast-put-byte-2
+    put-byte-requires-2
+    cast-put-byte-3
+    put-byte-requires-3
+    same-length-2
+    returns-2)
