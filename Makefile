@@ -16,6 +16,7 @@ test:
 	scripts/archive
 	scripts/harness test
 	scripts/harness compare
+	scripts/harness texts
 	scripts/harness stack
 	scripts/harness-c
 	rt ci

@@ -4,10 +4,11 @@
  * Link libyarnspire.a, which scripts/archive makes for x86-64 Linux. The library needs nothing but memcpy and memset, keeps nothing between calls, and allocates
  * nothing, so any number of threads may call it. A call takes less than 256 KiB of stack.
  *
- * What a caller owes, for both functions:
- *   - each pointer is valid for its length: an image or an input for as many bytes, the slots for as many numbers of 32 bits, every other pointer for one;
+ * What a caller owes, for all three functions:
+ *   - each pointer is valid for its length: a text, an image or an input for as many bytes, the slots for as many numbers of 32 bits, every other pointer for one;
  *   - no pointer is null, not even beside a length of 0 (any address that is valid and aligned will do);
- *   - nothing that is written (the slots and the numbers of the answer) overlaps anything else that is passed. The image and the input are only read.
+ *   - nothing that is written (the slots, the image that compile writes, and the numbers of the answer) overlaps anything else that is passed. What is
+ *     passed as const is only read.
  * Nothing else: every image, input, limit and length gets its answer.
  */
 #ifndef YARNSPIRE_H
@@ -50,9 +51,30 @@ extern "C" {
  *   13  the depth limit is reached                                            where the input stood
  *   14  there is no room for another symbol                                   where the symbol begins
  *   15  a round of a star passed and consumed nothing                         where the round began
+ *
+ * and of a grammar's text, with the place in it (docs/notation.md):
+ *
+ *   20  the text is not of the notation, or over 65,535 bytes                 where reading stopped
+ *   21  a name is not defined, or a table has no def                          the name
+ *   22  a name is defined twice                                               the second one
+ *   23  a table has two patterns                                              the def that differs from the first
+ *   24  a limit of 01 is passed                                               the name or quoted text that goes over
+ *   25  the buffer is too short for the image                                 0
  */
 #define YARNSPIRE_ACCEPTED 0
 #define YARNSPIRE_FAILED 99
+
+/*
+ * Writes the image of a grammar's text, in the notation of docs/notation.md. An image has at most 16,384 bytes.
+ *
+ * text, text_len     the text, and how many bytes it has
+ * image, image_len   a buffer for the image, and how many bytes it has. What lies past the image is never written, and nothing is if the text is refused
+ * number             written: 0 if the image was written, else the number of the refusal, 20 to 25
+ * length             written: how many bytes the image has, 0 for a refusal
+ * at                 written: where in the text the trouble is, 0 if there is none
+ */
+void yarnspire_compile(const uint8_t *text, size_t text_len, uint8_t *image, size_t image_len,
+                       uint32_t *number, uint32_t *length, uint32_t *at);
 
 /*
  * Says whether an image is good.

@@ -26,7 +26,6 @@
 pub mod answer;
 pub mod before;
 pub mod cases;
-#[cfg(feature = "compile")]
 pub mod compiled;
 pub mod facts;
 pub mod figures;

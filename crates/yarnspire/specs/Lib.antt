@@ -6,3 +6,5 @@ pub mod EndLaws
 pub mod PromiseLaws
 pub mod Unique
 pub mod Raised
+pub mod Compile
+pub mod CompileLaws

@@ -1,20 +1,23 @@
 // Yarnspire: a recogniser for Nez grammars.
 //
-// Three operations, which take every image, input, limits and slot buffer, of any length, and ask nothing of their caller: `check`,
-// `recognise` and `accepted_text`. For C and Rust: `yarnspire_check` and `yarnspire_recognise`.
+// Four operations, which take every text, image, input, limits and buffer, of any length, and ask nothing of their caller: `compile`, `check`, `recognise` and
+// `accepted_text`. For C and Rust: `yarnspire_compile`, `yarnspire_check` and `yarnspire_recognise`.
 ghost use mathlib.Core.Path.{_≡_};
 ghost use Rattle.yarnspire.specs.Answer.{sixOf, numbers};
 ghost use Rattle.yarnspire.specs.Promise.{Checks, Numbers, Answers, Recognised, Texts};
 
 mod answer;
 mod run;
+mod written;
 
 pub use answer::Answer;
 pub use answer::Verdict;
+pub use compiler::image::Compiled;
 use image::walk::Loaded;
 use image::walk::load;
 use run::allowed;
 use run::run;
+pub use written::compile;
 
 // Says whether an image is good, or its first fault.
 pub fn check(image: &[u8]) -> Verdict

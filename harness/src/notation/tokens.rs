@@ -45,6 +45,9 @@ impl Lexer<'_> {
             b'<' => self.looking(at),
             _ => {
                 let (name, end) = self.name(at)?;
+                if self.rest(self.gap(end)).starts_with(b"/*") {
+                    return None;
+                }
                 match self.byte(self.gap(end), b'=') {
                     Some(_) => None,
                     None => Some((Expression::Call(name), end)),
