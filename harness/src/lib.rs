@@ -1,7 +1,7 @@
 //! Yarnspire for Rust: the proved recogniser of Nez grammars, behind safe functions.
 //!
-//! A grammar comes as an *image*, bytes in the format of docs/01-scope.md, which is called *01* everywhere here. There are three operations:
-//! [`check`] an image, [`recognise`] the front of an input, and [`accepted_text`], which hands that front back as well. Every image, input,
+//! A grammar comes as an *image*, bytes in the format of docs/01-scope.md, which is called *01* everywhere here. There are four operations:
+//! [`compile`](compiled::compile) a grammar's text (docs/notation.md) into an image, [`check`] an image, [`recognise`] the front of an input, and [`accepted_text`], which hands that front back as well. Every image, input,
 //! limit and buffer is allowed and gets the answer that 01 gives it: nothing panics.
 //!
 //! ```
