@@ -2,8 +2,8 @@
 
 use yarnspire::notation::{compile, on_deep_stack, Stop, Why};
 use yarnspire::outcome::{Outcome, Refused};
-use yarnspire::texts::{compare, Held, COUNT, SEED};
-use yarnspire::{recognise_numbers, reference, Limits, Numbers};
+use yarnspire::texts::{compare, Held, SEED};
+use yarnspire::{reference, Limits, Numbers};
 
 /// The reader, in the shape of the library's function.
 fn by_reader(text: &[u8], image: &mut [u8]) -> Outcome {
@@ -28,10 +28,4 @@ fn by_reference(image: &[u8], input: &[u8], limits: Limits, slots: &mut [u32]) -
 #[test]
 fn the_texts_agree_with_themselves() {
     on_deep_stack(|| compare(SEED, 2000, Held { compile: by_reader, recognise: by_reference })).unwrap();
-}
-
-#[test]
-#[ignore = "the whole run, for which the program `texts` is meant"]
-fn there_are_enough_texts_of_every_sort() {
-    on_deep_stack(|| compare(SEED, COUNT, Held { compile: by_reader, recognise: recognise_numbers })).unwrap();
 }

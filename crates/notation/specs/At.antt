@@ -9,7 +9,7 @@ use Rattle.format.specs.Reading.{pick}
 use Rattle.notation.specs.Tree.{Name, Part, Leaf, any, class}
 use Rattle.notation.specs.Lexer.{Piece, piece, no, _then_, past, unclosed, Skipped, gap, nameFront, name, truth, fresh, quote, begin, parts}
 
--- The value of a piece, and the bytes behind it; where there is none, nothing.
+-- The value of a piece; where there is none, the empty list.
 abbrev pub value : {A : Type 0} → Piece (List A) → List A
 value (piece x r) = x
 value no = []

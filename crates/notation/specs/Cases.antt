@@ -67,7 +67,7 @@ unfolding post symbols _▸▸_ close whole inBracket inAngle stream skip front 
 refusals = refl
 
 -- Where the trouble is. In order: an undefined name, a table without a def, in angle brackets with blanks and a comment; the second definition; the second def;
--- the ninth table, the ninth condition; the long quoted text; the production with which there are 513 nodes; no room for an image of 8 bytes in 7.
+-- the ninth table, the ninth condition; the long quoted text; the production with which there are 513 nodes.
 placed :
     map (answered 16384) (
     bytes "A = B" ∷ bytes "A = < is /* T */ T >" ∷ bytes "A = <if ! C> B A = ."
@@ -80,6 +80,7 @@ placed :
 unfolding post symbols _▸▸_ close whole inBracket inAngle stream skip front second blockOn starOn nameFront nameBehind nameHere signHere truthHere quote atMark feed high low simple turn begun ranged _++ᵖ_ _∷ᵖ_ _then_ parts same word operator namedHere classed classHere token lexed lexemes grow trees came parsed sameSymbols member all distinct agree order insert sorted place entry count choices emit emitAll roots patternsIn patternsAll first compile behindTruth nameIn firstWhere firstName firstOver imageUpTo only numbered failing judged answered
 placed = refl
 
+-- An image of 6 bytes, and a buffer of 5 and of 6.
 roomed : map (λ room. number (answered room (bytes "A = ''"))) (5 ∷ 6 ∷ []) ≡ 25 ∷ 0 ∷ []
 unfolding post symbols _▸▸_ close whole inBracket inAngle stream skip front second blockOn starOn nameFront nameBehind nameHere signHere truthHere quote atMark feed high low simple turn begun ranged _++ᵖ_ _∷ᵖ_ _then_ parts same word operator namedHere classed classHere token lexed lexemes grow trees came parsed sameSymbols member all distinct agree order insert sorted place entry count choices emit emitAll roots patternsIn patternsAll first compile behindTruth nameIn firstWhere firstName firstOver imageUpTo only numbered failing judged answered
 roomed = refl

@@ -3,15 +3,16 @@
 --
 --   Gap    <- ([ \t\n\r] / '//' (!'\n' .)* ('\n' / !.) / '/*' (!'*/' .)* '*/')*
 --   Name   <- [A-Za-z_] [A-Za-z_0-9]*
+--   End    <- ![A-Za-z_0-9]
 --   Char   <- '\\x' Hex Hex / '\\' [nrt\\'"\[\]^-] / ![\\\n\r] .
 --   Quoted <- ['] (!['] Char)* ['] / ["] (!["] Char)* ["]
 --   Class  <- '[' !'^' Part+ ']'
 --   Part   <- !']' Char '-' !']' Char / !']' Char
 --   Token  <- Name Gap '=' / Name Gap !'=' / Quoted / Class / [.()/&!?*+>]
---           / '<' Gap ('def' / 'block' / 'local') Gap Name
---           / '<' Gap ('match' / 'is' / 'isa' / 'exists') Gap Name Gap '>'
---           / '<' Gap 'if' Gap ('!' Gap)? Name Gap '>'
---           / '<' Gap 'on' Gap ('!' Gap)? Name
+--           / '<' Gap ('def' / 'block' / 'local') End Gap Name
+--           / '<' Gap ('match' / 'isa' / 'is' / 'exists') End Gap Name Gap '>'
+--           / '<' Gap 'if' End Gap ('!' Gap)? Name Gap '>'
+--           / '<' Gap 'on' End Gap ('!' Gap)? Name
 --   Text   <- Gap (Token Gap)* !.
 use Prim.Native.Nat.{ℕ, _+_, _*_, _≤_}
 use Prim.Native.Char.{code}

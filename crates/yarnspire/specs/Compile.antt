@@ -37,7 +37,7 @@ abbrev pub atOf : Compiled → ℕ
 atOf (Written n) = 0
 atOf (Refused number at) = at
 
-pub record Numbers (text before after : List ℕ) (number long at : ℕ) : Type 0 where
+pub record ThreeNumbers (text before after : List ℕ) (number long at : ℕ) : Type 0 where
   pub compiled : Compiled
   pub compiles : Compiles text before after compiled
   pub number-is : number ≡ numberOf compiled

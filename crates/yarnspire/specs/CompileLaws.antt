@@ -18,7 +18,7 @@ use Rattle.compiler.specs.Compiles as compiler
 use Rattle.compiler.specs.CompilesLaws.{one-outcome as one-given}
 use Rattle.compiler.specs.declared.image.Compiled.{Compiled}
 use Rattle.compiler.specs.declared.image.Compiled.the-variants.{Written, Refused}
-use Rattle.yarnspire.specs.Compile.{Compiles, numberOf, lengthOf, atOf, Numbers}
+use Rattle.yarnspire.specs.Compile.{Compiles, numberOf, lengthOf, atOf, ThreeNumbers}
 
 no-way : {A : Type 0} → _≡_ {A = ℕ} 0 1 → A
 no-way z = absurd (omega arith)
@@ -82,7 +82,7 @@ one-outcome h h′ = one-given (h .is) (h′ .is)
 
 -- `yarnspire_compile`
 pub one-triple :
-    {text before after after′ : List ℕ} {n n′ l l′ a a′ : ℕ} → Numbers text before after n l a → Numbers text before after′ n′ l′ a′
+    {text before after after′ : List ℕ} {n n′ l l′ a a′ : ℕ} → ThreeNumbers text before after n l a → ThreeNumbers text before after′ n′ l′ a′
     → (n ≡ n′) × (l ≡ l′) × (a ≡ a′) × (after ≡ after′)
 one-triple h h′ =
     let e = one-outcome (h .compiles) (h′ .compiles) in (

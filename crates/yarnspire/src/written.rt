@@ -1,5 +1,5 @@
 // Grammars as written: a text becomes an image.
-ghost use Rattle.yarnspire.specs.Compile.{Compiles, Numbers};
+ghost use Rattle.yarnspire.specs.Compile.{Compiles, ThreeNumbers};
 use compiler::image::Compiled;
 
 // Writes the image of a grammar's text to the front of the buffer, and says how many bytes it has; what lies past them keeps its values. Or refuses, with a
@@ -20,7 +20,7 @@ pub extern "C" fn yarnspire_compile(
     size: &mut u32,
     at: &mut u32,
 )
-    ensures { λ _. ⌜ Numbers (now (text .entry)) (now (image .entry)) (now (image .exit)) (now (number .exit)) (now (size .exit)) (now (at .exit)) ⌝ }
+    ensures { λ _. ⌜ ThreeNumbers (now (text .entry)) (now (image .entry)) (now (image .exit)) (now (number .exit)) (now (size .exit)) (now (at .exit)) ⌝ }
 {
     let compiled = compile(text, image);
     match compiled {
