@@ -50,5 +50,6 @@ pub mod CompileLaws
 pub mod FitLaws
 pub mod ReadLaws
 pub mod SoundLaws
+pub mod NumberingLaws
 pub mod Shape
 pub mod Once

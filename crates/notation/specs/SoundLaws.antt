@@ -30,7 +30,7 @@ use Rattle.notation.specs.Text.{ReadsAs}
 
 -- ## Numbers stay below the number of nodes
 
-total : List Production → ℕ
+pub total : List Production → ℕ
 total [] = 0
 total (p ∷ ps) = count (p .body) + total ps
 
@@ -94,7 +94,7 @@ place-below t (u ∷ ts) e = go (same t u) refl (λ h. place-below t ts h)
     go true q f = rw q (omega arith)
     go false q f = let h = f (rw q at e) in rw q (omega arith)
 
-emit-all-length : (pn tn cn : Name → ℕ) (k : ℕ) (ps : List Production) → length (emitAll pn tn cn k ps) ≡ total ps
+pub emit-all-length : (pn tn cn : Name → ℕ) (k : ℕ) (ps : List Production) → length (emitAll pn tn cn k ps) ≡ total ps
 unfolding emitAll total
 emit-all-length pn tn cn k [] = refl
 emit-all-length pn tn cn k (p ∷ ps) =
