@@ -9,6 +9,7 @@ pub fn all() {
     start_of_two_bytes();
     text_of_64();
     sizes();
+    greatest();
     inputs();
     longest_input();
     lent();
@@ -46,6 +47,7 @@ fn text_of_64() {
     input[63] = 65;
     recognise(b"Text of 64 bytes", &image, &input, 1, 1, 0);
     recognise(b"Text of 64 bytes on 63", &image, &input[..63], 1, 1, 0);
+    check(b"2, 63 of 64 raw bytes", &image[..70]);
     input[0] = 1;
     recognise(
         b"Text of 64 bytes, the first another",
@@ -80,6 +82,33 @@ fn sizes() {
     image[3] = 1;
     check(b"Empty and zeros, 16384 bytes", &image[..16384]);
     check(b"1, Empty and zeros, 16385 bytes", &image);
+}
+
+// As many nodes as there may be, and as many bytes.
+fn greatest() {
+    let mut nodes = [0u8; 518];
+    nodes[0] = 1;
+    nodes[3] = 128;
+    nodes[4] = 4;
+    check(b"512 nodes", &nodes);
+    check(b"16384 bytes, all good", &longest());
+}
+
+// 512 nodes: 244 texts of 64 bytes, one of 5, and 267 empty ones.
+fn longest() -> [u8; 16384] {
+    let mut image = [0u8; 16384];
+    image[0] = 1;
+    image[3] = 128;
+    image[4] = 4;
+    let mut n: usize = 0;
+    while n < 244 {
+        image[6 + n * 66] = 4;
+        image[7 + n * 66] = 64;
+        n += 1;
+    }
+    image[16110] = 4;
+    image[16111] = 5;
+    image
 }
 
 // Refusal 9, placed at 0: the input has over 65,535 bytes.

@@ -3,8 +3,8 @@ use Prim.Native.Nat.{_≤_, _-_}
 use mathlib.Core.Path.{_≡_}
 use lib.ListN.{length}
 use borrow.Author.Needs.{needs}
-use Rattle.damaged.proofs.longest.Statement.{statement}
-use Rattle.damaged.proofs.longest.Tie as tie
+use Rattle.cases.proofs.large.longest.Statement.{statement}
+use Rattle.cases.proofs.large.longest.Tie as tie
 
 abbrev Inv-loop : tie.InvT-loop
 Inv-loop image₀ n₀ image n = (n ≤ 244) × (length image ≡ 16384)
