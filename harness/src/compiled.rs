@@ -1,5 +1,6 @@
 //! The library's `compile`: from a grammar text to its image.
 
+use crate::notation::LONGEST_IMAGE;
 use crate::outcome::{Outcome, Refused};
 
 extern "C" {
@@ -10,6 +11,14 @@ extern "C" {
 /// the buffer as it was. An image has at most 16,384 bytes.
 pub fn compile(text: &[u8], image: &mut [u8]) -> Result<usize, Refused> {
     compile_numbers(text, image).into()
+}
+
+/// The image of a grammar text, with a buffer that is long enough for every image; or the first refusal, 20 to 24.
+pub fn image_of(text: &[u8]) -> Result<Vec<u8>, Refused> {
+    let mut image = vec![0; LONGEST_IMAGE];
+    let length = compile(text, &mut image)?;
+    image.truncate(length);
+    Ok(image)
 }
 
 /// [`compile`] as the library answers it: three numbers.

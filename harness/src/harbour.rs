@@ -30,9 +30,12 @@ fn ample(image: Vec<u8>, input: &[u8]) -> Case {
     case(image, input, steps, depth, room)
 }
 
+/// 01's image H: a name of letters A to Z is defined, then `=`, then the same name.
+pub const H: &[u8] = b"\x01\x01\x00\x08\x07\x02\x02\x41\x5A\x07\x00\x05\x00\x01\x0A\x00\x01\x3D\x0C\x00\x05\x04\x05\x05\x03\x06";
+
 /// Image H, or the same with another kind for Is.
 fn image_h(is: u8) -> Vec<u8> {
-    let mut image = b"\x01\x01\x00\x08\x07\x02\x02\x41\x5A\x07\x00\x05\x00\x01\x0A\x00\x01\x3D\x0C\x00\x05\x04\x05\x05\x03\x06".to_vec();
+    let mut image = H.to_vec();
     image[18] = is;
     image
 }

@@ -5,23 +5,24 @@
 //! limit and buffer is allowed and gets the answer that 01 gives it: nothing panics.
 //!
 //! ```
+//! use yarnspire::compiled::image_of;
 //! use yarnspire::{check, recognise, Answer, Limits};
 //!
 //! // A name of letters A to Z is defined, then `=`, then the same name.
-//! let image = b"\x01\x01\x00\x08\x07\x02\x02AZ\x07\x00\x05\x00\x01\x0A\x00\x01=\x0C\x00\x05\x04\x05\x05\x03\x06";
-//! assert_eq!(check(image), Ok(()));
+//! let image = image_of(b"Start = <def NAME [A-Z]+> '=' <is NAME>").expect("a good text");
+//! assert_eq!(check(&image), Ok(()));
 //!
 //! let input = b"AB=AB;";
 //! let limits = Limits { steps: 1000, depth: 50, room: 4 };
 //! let mut slots = vec![0; limits.slots()];
-//! let answer = recognise(image, input, limits, &mut slots);
+//! let answer = recognise(&image, input, limits, &mut slots);
 //! assert_eq!(answer, Answer::Accepted { consumed: 5, steps: 17, depth: 6, symbols: 1 });
 //!
 //! let names: Vec<&[u8]> = answer.symbols(&slots).map(|symbol| symbol.text(input)).collect();
 //! assert_eq!(names, [b"AB"]);
 //! ```
 //!
-//! [`grammar`] and [`listing`] make images. The other modules serve the programs that hold the library against a second implementation.
+//! The other modules serve the programs that hold the library against second implementations, and that measure it.
 
 pub mod answer;
 pub mod before;
@@ -29,20 +30,22 @@ pub mod cases;
 pub mod compiled;
 pub mod facts;
 pub mod figures;
+pub mod files;
 pub mod grammar;
 pub mod harbour;
 pub mod hex;
 pub mod implementations;
 pub mod inputs;
-pub mod listing;
 pub mod notation;
 pub mod outcome;
 pub mod plain;
 pub mod random;
 pub mod reference;
+pub mod samples;
 pub mod tally;
 pub mod texts;
 pub mod visits;
+pub mod wrong;
 
 pub use answer::{Answer, Numbers, Refusal, Symbol};
 

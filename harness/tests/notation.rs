@@ -1,31 +1,33 @@
-//! The second reader of grammar texts, held to docs/notation.md: its examples, its own grammar, and the samples.
+//! The second reader of grammar texts, and the library's `compile`, held to docs/notation.md: its examples, and its own grammar. The samples mean what is
+//! expected of them.
 
-use std::fs;
-use std::path::{Path, PathBuf};
-
+use yarnspire::compiled::image_of;
+use yarnspire::files;
 use yarnspire::grammar::{Grammar, Node};
+use yarnspire::harbour;
 use yarnspire::notation::meaning::{self, Cap, Meant};
 use yarnspire::notation::{compile, on_deep_stack, read, tokens, Compiled, Tokens, Why};
 use yarnspire::outcome::Refused;
+use yarnspire::samples::{self, Expected};
 use yarnspire::texts::Maker;
 use yarnspire::{check, recognise, Answer, Limits};
 
-/// A file of the repository.
-fn file(name: &str) -> PathBuf {
-    Path::new(env!("CARGO_MANIFEST_DIR")).join("..").join(name)
-}
-
-fn bytes(path: &Path) -> Vec<u8> {
-    fs::read(path).unwrap_or_else(|error| panic!("{}: {error}", path.display()))
-}
-
 fn page() -> String {
-    String::from_utf8(bytes(&file("docs/notation.md"))).expect("the page is text")
+    files::text("docs/notation.md")
 }
 
-/// What a good text becomes.
+/// What a good text becomes. The library gives it the same image.
 fn compiled(text: &[u8]) -> Compiled {
-    compile(text, None).unwrap_or_else(|stop| panic!("{}", Refused::from(stop)))
+    let compiled = compile(text, None).unwrap_or_else(|stop| panic!("{}", Refused::from(stop)));
+    assert_eq!(image_of(text).as_ref(), Ok(&compiled.image));
+    compiled
+}
+
+/// The reader and the library refuse a text with this number, at this place.
+fn assert_refused(text: &str, number: u32, at: u32) {
+    let refused = Refused { number, at };
+    assert_eq!(compile(text.as_bytes(), None).map_err(Refused::from), Err(refused), "{text}, by the reader");
+    assert_eq!(image_of(text.as_bytes()), Err(refused), "{text}, by the library");
 }
 
 /// The lines of the page's table of examples: number, text and place.
@@ -49,8 +51,7 @@ fn every_example_is_refused_there() {
     let examples = examples(&page);
     assert!(examples.len() >= 22);
     for (number, text, at) in examples {
-        let refused = compile(text.as_bytes(), None).map(|_| ()).map_err(Refused::from);
-        assert_eq!(refused, Err(Refused { number, at }), "{text}");
+        assert_refused(&text, number, at);
     }
 }
 
@@ -84,8 +85,7 @@ fn image_h_is_written() {
     let page = page();
     let (_, behind) = page.split_once("So `").expect("the page has an example of numbered nodes");
     let (text, _) = behind.split_once("` is the image H").expect("it is image H");
-    let h = b"\x01\x01\x00\x08\x07\x02\x02AZ\x07\x00\x05\x00\x01\x0A\x00\x01=\x0C\x00\x05\x04\x05\x05\x03\x06";
-    assert_eq!(compiled(text.as_bytes()).image, h);
+    assert_eq!(compiled(text.as_bytes()).image, harbour::H);
 }
 
 /// The nodes of the first production, with this expression. T has a def behind it.
@@ -213,43 +213,34 @@ fn refusals_have_their_places() {
         ("A = <def T <def T .>>", 23, 11),
     ];
     for (text, number, at) in table {
-        let refused = compile(text.as_bytes(), None).map(|_| ()).map_err(Refused::from);
-        assert_eq!(refused, Err(Refused { number, at }), "{text}");
+        assert_refused(text, number, at);
     }
 }
 
-/// Accepted with so many bytes and symbols, failed, or refused by a number: what does not depend on how nodes are shared.
-fn sort(answer: Answer) -> String {
-    match answer {
-        Answer::Accepted { consumed, symbols, .. } => format!("accept {consumed} {symbols}"),
-        Answer::Failed { .. } => "fail".into(),
-        Answer::Refused { refusal, .. } => format!("refuse {}", refusal.number),
-    }
-}
-
-/// The same of a line of samples/expected.
-fn sort_of_line(line: &str) -> String {
+/// A line of samples/expected without what counts the machine's steps; none for a refusal, which hangs on them.
+fn without_steps(line: &str) -> Option<String> {
     match line.split(' ').collect::<Vec<_>>()[..] {
-        ["accept", consumed, _, _, symbols] => format!("accept {consumed} {symbols}"),
-        ["refuse", number, _] => format!("refuse {number}"),
-        ["fail", ..] => "fail".into(),
+        ["accept", consumed, _, _, symbols] => Some(format!("accept {consumed} {symbols}")),
+        ["fail", ..] => Some("fail".into()),
+        ["refuse", ..] => None,
         _ => panic!("no answer: {line}"),
     }
 }
 
 #[test]
-fn every_sample_is_answered_by_its_source() {
-    let expected = String::from_utf8(bytes(&file("samples/expected"))).expect("it is text");
-    let mut seen = 0;
-    for entry in expected.lines().filter(|entry| !entry.starts_with('#')) {
-        let (name, line) = entry.split_once(": ").expect("a name and a line");
-        let text = file("samples").join(name);
-        let (source, input) = (bytes(&text.with_file_name("grammar.nez")), bytes(&text));
-        let (answer, _) = answer(&compiled(&source), &input);
-        assert_eq!(sort(answer), sort_of_line(line), "{name}");
-        seen += 1;
+fn the_samples_mean_what_is_expected_of_them() {
+    for entry in samples::expected() {
+        let (grammar, input) = (compiled(&samples::grammar(&entry.sample)), entry.input());
+        let Expected { name, line, .. } = entry;
+        let meant = match meaning::run(&grammar.productions, &input, Cap { steps: 10_000, depth: 100 }) {
+            Meant::Accepted { consumed, symbols } => Some(format!("accept {consumed} {}", symbols.len())),
+            Meant::Failed => Some("fail".into()),
+            Meant::GivenUp(_) => None,
+        };
+        if let Some(wanted) = without_steps(&line) {
+            assert_eq!(meant, Some(wanted), "{name}");
+        }
     }
-    assert_eq!(seen, 20);
 }
 
 /// The page's grammar of the notation, which is nearly a text of the notation: `<-` stands for `=`.

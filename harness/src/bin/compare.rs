@@ -10,14 +10,13 @@ use yarnspire::cases::{Case, Maker, Seen};
 use yarnspire::harbour;
 use yarnspire::reference::Fault;
 use yarnspire::tally::Tally;
+use yarnspire::wrong::Wrong;
 
 const SEED: u64 = 20_260_101;
 const COUNT: u64 = 300_000;
 
 /// The wrong machines run this many cases, the first ones.
 const WRONG_COUNT: u64 = 50_000;
-/// Each must differ from the reference in at least this many of them.
-const WRONG_WANTED: u64 = 30;
 
 fn main() {
     let words: Vec<String> = std::env::args().skip(1).collect();
@@ -43,7 +42,7 @@ fn compare(seed: u64, count: u64) -> Result<(), String> {
     println!("seed {seed}, {count} cases");
     let mut maker = Maker::new(seed);
     let mut tally = Tally::default();
-    let mut wrong: Vec<Wrong> = Fault::ALL.iter().map(|(fault, name)| Wrong { fault: *fault, name, differs: 0, first: None }).collect();
+    let mut wrong = Wrong::new("case", &Fault::ALL);
     for i in 1..=count {
         let case = maker.case();
         let (expected, trace) = case.by_reference(None);
@@ -56,19 +55,19 @@ fn compare(seed: u64, count: u64) -> Result<(), String> {
         }
         tally.count(&expected.answer, &trace);
         if i <= WRONG_COUNT {
-            wrong.iter_mut().for_each(|machine| machine.run(i, &case, &expected));
+            wrong.count(i, |fault| case.by_reference(Some(fault)).0 != expected);
         }
     }
     println!("library, plain Rust and reference agree in all: check, the six numbers, every slot");
     print!("{tally}");
     println!("wrong machines, and in how many of the first {WRONG_COUNT} cases each is told apart:");
-    wrong.iter().for_each(Wrong::print);
+    print!("{wrong}");
     if count < COUNT {
         println!("fewer than {COUNT} cases: no count is asked for");
         return Ok(());
     }
     let mut faults = tally.faults();
-    faults.extend(wrong.iter().filter_map(Wrong::shortage));
+    faults.extend(wrong.shortages());
     if faults.is_empty() {
         println!("ok");
         return Ok(());
@@ -79,35 +78,6 @@ fn compare(seed: u64, count: u64) -> Result<(), String> {
 /// What is held to the reference's answer: the library and the plain implementation.
 fn held_to_reference(case: &Case) -> [(&'static str, Seen); 2] {
     [("library", case.by_library()), ("plain Rust", case.by_plain())]
-}
-
-/// A wrong machine, with the number of cases that tell it from the reference, and the first of them.
-struct Wrong {
-    fault: Fault,
-    name: &'static str,
-    differs: u64,
-    first: Option<u64>,
-}
-
-impl Wrong {
-    fn run(&mut self, number: u64, case: &Case, expected: &Seen) {
-        if case.by_reference(Some(self.fault)).0 != *expected {
-            self.differs += 1;
-            self.first = self.first.or(Some(number));
-        }
-    }
-
-    fn print(&self) {
-        let first = self.first.map_or("never".into(), |number| format!("first in case {number}"));
-        println!("  {:7} {} ({first})", self.differs, self.name);
-    }
-
-    fn shortage(&self) -> Option<String> {
-        if self.differs < WRONG_WANTED {
-            return Some(format!("{} cases tell apart '{}', fewer than {WRONG_WANTED}", self.differs, self.name));
-        }
-        None
-    }
 }
 
 fn rerun(words: &[String]) -> Result<(), String> {

@@ -11,6 +11,7 @@ use crate::notation::meaning::{self, Cap, GivenUp, Meant};
 use crate::notation::{self, Compiled, Fault, Stop, Why, LONGEST_IMAGE};
 use crate::outcome::{Outcome, Refused};
 use crate::random::Random;
+use crate::wrong::Wrong;
 use crate::{check, hex, Limits, Numbers};
 
 pub const SEED: u64 = 20_260_201;
@@ -18,8 +19,6 @@ pub const COUNT: u64 = 100_000;
 
 /// The wrong readers read this many texts, the first ones.
 const WRONG_COUNT: u64 = 10_000;
-/// Each must differ from the reader in at least this many of them.
-const WRONG_WANTED: u64 = 30;
 
 /// How far a run of an image goes, and one of the tree.
 const LIMITS: Limits = Limits { steps: 4000, depth: 256, room: 256 };
@@ -46,25 +45,25 @@ pub fn compare(seed: u64, count: u64, held: Held) -> Result<(), String> {
     println!("seed {seed}, {count} texts");
     let mut comparison = Comparison { held, random: Random::new(!seed), tally: Tally::default() };
     let mut maker = Maker::new(seed);
-    let mut wrong: Vec<Wrong> = Fault::ALL.iter().map(|(fault, name)| Wrong { fault: *fault, name, differs: 0, first: None }).collect();
+    let mut wrong = Wrong::new("text", &Fault::ALL);
     for i in 1..=count {
         let case = maker.case();
         let read = notation::compile(&case.text, None);
         comparison.case(&case, &read).map_err(|what| format!("text {i}: {what}\n{}", kept(&case.text)))?;
         if i <= WRONG_COUNT {
-            wrong.iter_mut().for_each(|reader| reader.read(i, &case.text, &read));
+            wrong.count(i, |fault| image_of(&notation::compile(&case.text, Some(fault))) != image_of(&read));
         }
     }
     println!("all agree: numbers, places, images, every byte of the buffers, and the runs of the images with the meaning of the texts");
     print!("{}", comparison.tally);
     println!("wrong readers, and in how many of the first {WRONG_COUNT} texts each is told apart:");
-    wrong.iter().for_each(Wrong::print);
+    print!("{wrong}");
     if count < COUNT {
         println!("fewer than {COUNT} texts: no count is asked for");
         return Ok(());
     }
     let mut faults = comparison.tally.faults();
-    faults.extend(wrong.iter().filter_map(Wrong::shortage));
+    faults.extend(wrong.shortages());
     if faults.is_empty() {
         println!("ok");
         return Ok(());
@@ -231,35 +230,6 @@ fn agree(answer: &Numbers, slots: &[u32], meant: &Meant, tables: &[String]) -> b
                 && answer.symbols as usize == symbols.len()
                 && slots.iter().take(3 * symbols.len()).map(|slot| *slot as usize).eq(meant)
         }
-    }
-}
-
-/// A wrong reader, with the number of texts that tell it from the right one, and the first of them.
-struct Wrong {
-    fault: Fault,
-    name: &'static str,
-    differs: u64,
-    first: Option<u64>,
-}
-
-impl Wrong {
-    fn read(&mut self, number: u64, text: &[u8], right: &Result<Compiled, Stop>) {
-        if image_of(&notation::compile(text, Some(self.fault))) != image_of(right) {
-            self.differs += 1;
-            self.first = self.first.or(Some(number));
-        }
-    }
-
-    fn print(&self) {
-        let first = self.first.map_or("never".into(), |number| format!("first in text {number}"));
-        println!("  {:7} {} ({first})", self.differs, self.name);
-    }
-
-    fn shortage(&self) -> Option<String> {
-        if self.differs < WRONG_WANTED {
-            return Some(format!("{} texts tell apart '{}', fewer than {WRONG_WANTED}", self.differs, self.name));
-        }
-        None
     }
 }
 

@@ -3,7 +3,7 @@
 use std::fs;
 
 use yarnspire::implementations::Implementation;
-use yarnspire::{reference, Limits, Numbers};
+use yarnspire::{reference, samples, Limits, Numbers};
 
 use crate::lua::Lua;
 use crate::timing::time_batch;
@@ -25,7 +25,7 @@ pub struct Case {
 impl Case {
     /// Writes the input for LPeg to read, and asserts that all the others answer alike, slots included.
     pub fn new(grammar: &'static str, name: &str, input: Vec<u8>) -> Case {
-        let image = fs::read(format!("samples/{grammar}/rules")).expect("the sample's image");
+        let image = samples::image(grammar);
         let file = format!("{INPUTS}/{name}");
         fs::write(&file, &input).expect("the input is written");
         let mut slots = slot_buffer();

@@ -71,8 +71,8 @@ pub fn conditions(load: &str, lua_version: &str) -> String {
 - LPeg compiles a grammar for a machine of its own, with sets of characters and runs of a set as single instructions. An image of edition 1 has
   neither: a class like `[a-z0-9_]` is a choice of ranges, and each byte of a name is a round of a Star, an entry of its body, and an entry of each
   alternative tried.
-- The images are those of `samples/`, written to be read. Every byte of text between tags costs six steps (a round, a choice, a sequence, a look
-  ahead with its byte, and any byte); the LPeg grammar takes the whole run of text at once.
+- The images are compiled from the grammars of `samples/`, which are written to be read. Every byte of text between tags costs seven steps (a round, a choice,
+  a call, a sequence, a look ahead with its byte, and any byte); the LPeg grammar takes the whole run of text at once.
 - LPeg is asked for a match alone. It has captures only where the language needs them, and hands back no names; the library answers with the
   exact count of steps, the depth, and every name held. LPeg counts no steps and knows none of 01's limits.
 - The LPeg grammars are written by hand for LPeg and not translated node by node. They look type names up in a Lua table by hash where the library

@@ -13,7 +13,7 @@ use callgrind::instructions_of_a_call;
 use profile::Profile;
 use yarnspire::implementations::Implementation::{self, Before, Library, Plain};
 use yarnspire::inputs::{typedef_holding, Kind, FEW_AND_MANY, KINDS};
-use yarnspire::Limits;
+use yarnspire::{samples, Limits};
 
 const BYTES: usize = 30_000;
 const COMPARED: [Implementation; 3] = [Before, Library, Plain];
@@ -65,7 +65,7 @@ fn make_calls(implementation: &str, input: &str, count: &str) {
 /// The steps of so many calls, all together.
 fn steps(implementation: Implementation, input: &Input, calls: u32) -> u32 {
     let recognise = implementation.recognise().expect("it is linked");
-    let image = fs::read(format!("samples/{}/rules", input.grammar)).expect("the sample's image");
+    let image = samples::image(input.grammar);
     let mut slots = vec![0; Limits::AMPLE.slots()];
     (0..calls).map(|_| recognise(&image, &input.text, Limits::AMPLE, &mut slots).steps).sum()
 }
