@@ -180,7 +180,7 @@ fn tables_and_conditions_are_numbered_in_byte_order() {
 /// More places than the page's table has, worked out from its words.
 #[test]
 fn refusals_have_their_places() {
-    let table: [(&str, u32, u32); 30] = [
+    let table: [(&str, u32, u32); 33] = [
         ("  ", 20, 2),
         ("// no more", 20, 10),
         ("A", 20, 0),
@@ -203,6 +203,9 @@ fn refusals_have_their_places() {
         ("A = <is T /* ", 20, 4),
         ("A = <def T /* ", 20, 11),
         ("A /* ", 20, 0),
+        ("A = b /* ", 20, 6),
+        ("A = b c/*=", 20, 7),
+        ("A = b /**/ // /*\n/* = .", 20, 17),
         ("A = . /*/", 20, 6),
         ("A = . /**//*", 20, 10),
         ("A = '\n'", 20, 4),

@@ -12,7 +12,7 @@ use Rattle.lexer.specs.declared.token.Token.{Token}
 use Rattle.lexer.specs.Meant.{meant, ahead, Lexed}
 use Rattle.lexer.specs.Tokens.{simple, noToken, given, Begins}
 use Rattle.lexer.proofs.PlaceLaws.{at-place}
-use Rattle.lexer.proofs.LexemeLaws.{lexemes-end, lexemes-open, lexemes-no, lexemes-token}
+use Rattle.lexer.proofs.LexemeLaws.{lexemes-end, lexemes-open, lexemes-no, lexemes-token, lexemes-skip}
 use Rattle.lexer.proofs.TokenLaws.{byte-here}
 
 module _ (t : List ℕ) (at : ℕ) where
@@ -60,7 +60,7 @@ module _ (t : List ℕ) (at : ℕ) where
       unfolding ahead meant given
       goes-so = go (eqb (r .kind) 11) refl
         where
-          here : token (getD t n 0) (drop (n + 1) t) ≡ given t r
+          here : token (getD t n 0) (drop (n + 1) t) ≡ given t r (b .rest)
           here = sym (byte-here t n h) ∙ b .goes
 
           go : (z : Bool) → eqb (r .kind) 11 ≡ z → lexemes (drop at t) ≡ ahead t r
@@ -68,9 +68,9 @@ module _ (t : List ℕ) (at : ℕ) where
               let k : r .kind ≡ 11 = eqb-true (r .kind) 11 z in
               lexemes-no (drop at t) front (here ∙ rw k) ∙ rw (k, b .here, at-place t n h)
           go false z =
-              let f : token (getD t n 0) (drop (n + 1) t) ≡ piece (meant t r) (drop (r .next) t) = here ∙ rw z in
+              let f : token (getD t n 0) (drop (n + 1) t) ≡ piece (meant t r) (b .rest) = here ∙ rw z in
               lexemes-token (drop at t) front f
-              ∙ rw (ne-eqb (r .kind) 0 (λ y. omega (arith, b .one)), z, b .here, at-place t n h)
+              ∙ rw (lexemes-skip (b .rest) (drop (r .next) t) (b .skips), ne-eqb (r .kind) 0 (λ y. omega (arith, b .one)), z, b .here, at-place t n h)
 
       pub lexed-token : Lexed t at r
       lexed-token =

@@ -10,7 +10,7 @@ use Rattle.notation.specs.LexicalGap.{Gives, gives, gap-sound}
 use Rattle.notation.specs.LexicalText.{Yields, yields}
 use Rattle.notation.specs.LexicalToken.{token-sound}
 use Rattle.notation.specs.Lexer.{Piece, piece, no, Skipped, past, unclosed, gap, token, lexed, lexemes}
-use Rattle.notation.specs.TextLaws.{gap-shorter, token-shorter}
+use Rattle.notation.specs.ShorterLaws.{gap-shorter, token-shorter}
 
 abbrev at : List ℕ → Token → Lexeme
 at s t = record { here = s; token = t }
@@ -78,3 +78,16 @@ module _ (s : List ℕ) where
       where
         shorter : Gives (Gap s) (past (b ∷ u)) → Yields (λ t r. Spelled t (b ∷ u) r) (piece t v) → length v < length s
         shorter (gives g) (yields S) = let i = gap-shorter g in let j = token-shorter S in omega arith
+
+-- A gap more makes no difference.
+pub lexemes-skip : (s r : List ℕ) → gap s ≡ gap r → lexemes s ≡ lexemes r
+lexemes-skip s r q = go (gap r) refl
+  where
+    on : (b : ℕ) (u : List ℕ) → gap r ≡ past (b ∷ u) → (p : Piece Token) → token b u ≡ p → lexemes s ≡ lexemes r
+    on b u e no f = lexemes-no s (q ∙ e) f ∙ sym (lexemes-no r e f)
+    on b u e (piece t v) f = lexemes-token s (q ∙ e) f ∙ sym (lexemes-token r e f)
+
+    go : (o : Skipped) → gap r ≡ o → lexemes s ≡ lexemes r
+    go (unclosed c) e = lexemes-open s (q ∙ e) ∙ sym (lexemes-open r e)
+    go (past []) e = lexemes-end s (q ∙ e) ∙ sym (lexemes-end r e)
+    go (past (b ∷ u)) e = on b u e (token b u) refl

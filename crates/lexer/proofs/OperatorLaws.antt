@@ -164,7 +164,9 @@ module _ (t : List ℕ) {start k at : ℕ} (o : OperatorAt t start k at) where
         opener-begins g i =
             rw g (record {
               here = refl;
+              rest = drop m t;
               goes = o .goes ∙ opens-here (o .worded) h (drop at t) e f i;
+              skips = refl;
               numbers = omega arith;
               one = omega arith;
               longer = λ _. omega (arith, o .onward, n .onward, n .longer);
@@ -177,13 +179,15 @@ module _ (t : List ℕ) {start k at : ℕ} (o : OperatorAt t start k at) where
         pub query-begins : {q : ℕ} {r : Token} → r ≡ made 5 k w start p q → k < 10
             → (sign (code ">") (drop m t) ≡ piece tt (drop q t)) × (m < q) × (q ≤ length t) → Begins t start r
         unfolding given meant leafAt leafFor
-        query-begins g i y =
+        query-begins {q} g i y =
             let x = low (o .worded) in
             rw g (record {
               here = refl;
+              rest = drop q t;
               goes =
                   o .goes ∙ asks-here (o .worded) h (drop at t) e f i (y .0)
                   ∙ rw (ne-eqb k 1 (λ j. omega arith), ne-eqb k 2 (λ j. omega arith), ne-eqb k 3 (λ j. omega arith), ne-eqb k 4 (λ j. omega arith));
+              skips = refl;
               numbers = omega arith;
               one = omega arith;
               longer = λ _. omega (arith, o .onward, n .onward, n .longer);

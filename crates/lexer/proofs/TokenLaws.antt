@@ -12,6 +12,7 @@ use Rattle.notation.specs.Bytes.{letter}
 use Rattle.notation.specs.Token.{leaf}
 use Rattle.notation.specs.Tree.{Part, quoted}
 use Rattle.notation.specs.LexicalText.{no-way}
+use Rattle.notation.specs.LexicalGap.{past-again, unclosed-again}
 use Rattle.notation.specs.Token as N
 use Rattle.notation.specs.Lexer.{Piece, piece, no, _then_, past, unclosed, gap, namedHere, fresh, quote, begin, parts, classed, classHere, token}
 use Rattle.notation.specs.LexicalToken.{tokenOf}
@@ -53,7 +54,9 @@ module _ (t : List ℕ) (start : ℕ) where
   no-token e f =
       rw e (record {
         here = refl;
+        rest = drop start t;
         goes = f;
+        skips = refl;
         numbers = omega arith;
         one = omega arith;
         longer = λ l. omega arith;
@@ -75,12 +78,14 @@ module _ (t : List ℕ) (start : ℕ) where
     -- A token that is no operator.
     simple-begins : (k s next : ℕ) {r : Token} → r ≡ simple k s start next → (1 ≤ k) × (k ≤ 10) × Numbers k s
         → (s ≡ 3 → partsOf (drop start t) ≡ [] → ⊥) → (getD t start 0 ≡ 60 → ⊥)
-        → (start < next) × (next ≤ length t) → token (getD t start 0) (drop (start + 1) t) ≡ piece (meant t (simple k s start next)) (drop next t)
-        → Begins t start r
+        → (start < next) × (next ≤ length t) → (rest : List ℕ) → gap rest ≡ gap (drop next t)
+        → token (getD t start 0) (drop (start + 1) t) ≡ piece (meant t (simple k s start next)) rest → Begins t start r
     unfolding given
-    simple-begins k s next e n p f l g =
+    simple-begins k s next e n p f l rest x g =
         rw e (record {
           here = refl;
+          rest = rest;
+          skips = x;
           goes = byte-here ∙ g ∙ rw (ne-eqb k 11 (λ z. omega arith));
           numbers = n .2;
           one = n .0;
@@ -95,7 +100,7 @@ module _ (t : List ℕ) (start : ℕ) where
     pub sign-begins : (b k s : ℕ) {r : Token} → getD t start 0 ≡ b → r ≡ simple k s start (start + 1) → (1 ≤ k) × (k ≤ 10) × Numbers k s × (s ≡ 3 → ⊥)
         → (b ≡ 60 → ⊥) → token b (drop (start + 1) t) ≡ piece (meant t (simple k s start (start + 1))) (drop (start + 1) t) → Begins t start r
     sign-begins b k s e f n o g =
-        simple-begins k s (start + 1) f (n .0, n .1, n .2) (λ z. absurd (n .3 z)) (λ z. o (sym e ∙ z)) (omega arith) (ap (λ b. token b (drop (start + 1) t)) e ∙ g)
+        simple-begins k s (start + 1) f (n .0, n .1, n .2) (λ z. absurd (n .3 z)) (λ z. o (sym e ∙ z)) (omega arith) _ refl (ap (λ b. token b (drop (start + 1) t)) e ∙ g)
 
     -- A byte that begins no token.
     pub no-sign : Single (getD t start 0) → {r : Token} → r ≡ noToken start → NoSign (getD t start 0)
@@ -126,7 +131,7 @@ module _ (t : List ℕ) (start : ℕ) where
     -- ## Names
 
     module _ (f : letter (getD t start 0) ≡ true) {to : ℕ} (k : NameEnds t (start + 1) to) where
-      name-here : token (getD t start 0) (drop (start + 1) t) ≡ namedHere (nameAt t start) (gap (drop to t))
+      name-here : token (getD t start 0) (drop (start + 1) t) ≡ namedHere (nameAt t start) (drop to t) (gap (drop to t))
       unfolding token
       name-here =
           rw (f, behind-more (getD t start 0) (drop (start + 1) t) (letter-names (getD t start 0) f), k .goes, ← at-place t start h)
@@ -134,29 +139,36 @@ module _ (t : List ℕ) (start : ℕ) where
       no-operator : getD t start 0 ≡ 60 → ⊥
       no-operator z = let l = letter-high (getD t start 0) f in omega arith
 
-      pub named-open : {c : List ℕ} → gap (drop to t) ≡ unclosed c → tokenOf (drop start t) ≡ no
-      unfolding namedHere
-      named-open e = byte-here ∙ name-here ∙ rw e
+      skipped : (i : ℕ) → gap (drop to t) ≡ past (drop i t) → gap (drop to t) ≡ gap (drop i t)
+      skipped i e = e ∙ sym (past-again (drop to t) (drop i t) e)
+
+      pub call-open : {c : ℕ} → gap (drop to t) ≡ unclosed (drop c t) → to ≤ c → c ≤ length t → {r : Token} → r ≡ simple 5 4 start c → Begins t start r
+      unfolding namedHere meant leafAt
+      call-open {c} e l m g =
+          let j = k .onward in
+          simple-begins 5 4 c g (omega arith) (λ z. absurd (omega arith)) no-operator (omega arith) (drop to t) (e ∙ sym (unclosed-again (drop to t) (drop c t) e)) (name-here ∙ rw e)
 
       module _ {i : ℕ} (e : gap (drop to t) ≡ past (drop i t)) (l : to ≤ i) {r : Token} where
         pub call-last : length t ≤ i → i ≤ length t → r ≡ simple 5 4 start i → Begins t start r
         unfolding namedHere meant leafAt
         call-last m n g =
             let j = k .onward in
-            simple-begins 5 4 i g (omega arith) (λ z. absurd (omega arith)) no-operator (omega arith) (name-here ∙ rw (e, drop-of-length-le t m))
+            simple-begins 5 4 i g (omega arith) (λ z. absurd (omega arith)) no-operator (omega arith) (drop to t) (skipped i e) (name-here ∙ rw (e, drop-of-length-le t m))
 
         module _ (m : i < length t) where
           pub call-here : (getD t i 0 ≡ 61 → ⊥) → r ≡ simple 5 4 start i → Begins t start r
           unfolding namedHere meant leafAt
           call-here n g =
               let j = k .onward in
-              simple-begins 5 4 i g (omega arith) (λ z. absurd (omega arith)) no-operator (omega arith) (name-here ∙ rw (e, at-place t i m, ne-eqb (getD t i 0) 61 n))
+              simple-begins 5 4 i g (omega arith) (λ z. absurd (omega arith)) no-operator (omega arith) (drop to t) (skipped i e)
+              (name-here ∙ rw (e, at-place t i m, ne-eqb (getD t i 0) 61 n))
 
           pub head-here : getD t i 0 ≡ 61 → r ≡ simple 1 0 start (i + 1) → Begins t start r
           unfolding namedHere meant
           head-here n g =
               let j = k .onward in
-              simple-begins 1 0 (i + 1) g (omega arith) (λ z. absurd (omega arith)) no-operator (omega arith) (name-here ∙ rw (e, at-place t i m, eq-eqb (getD t i 0) 61 n))
+              simple-begins 1 0 (i + 1) g (omega arith) (λ z. absurd (omega arith)) no-operator (omega arith) _ refl
+              (name-here ∙ rw (e, at-place t i m, eq-eqb (getD t i 0) 61 n))
 
     -- ## Quoted text and classes
 
@@ -170,7 +182,7 @@ module _ (t : List ℕ) (start : ℕ) where
       unfolding ended _then_ meant leafAt quotedOf
       quote-begins Open f g = no-token g (byte-here ∙ quote-here ∙ rw f)
       quote-begins (Behind n) f g =
-          simple-begins 5 2 n g (omega arith) (λ z. absurd (omega arith)) (λ z. ⊎-elim (λ x. omega arith) (λ x. omega arith) e) (omega arith)
+          simple-begins 5 2 n g (omega arith) (λ z. absurd (omega arith)) (λ z. ⊎-elim (λ x. omega arith) (λ x. omega arith) e) (omega arith) _ refl
           (quote-here ∙ rw (at-place t start h, f .0))
 
     module _ (e : getD t start 0 ≡ 91) where
@@ -182,4 +194,5 @@ module _ (t : List ℕ) (start : ℕ) where
       unfolding ended meant leafAt partsOf
       class-begins Open f g = no-token g (byte-here ∙ class-byte ∙ f)
       class-begins (Behind n) f g =
-          simple-begins 5 3 n g (omega arith) (λ _. rw (at-place t start h) (class-parted (drop (start + 1) t) (f .0))) (λ z. omega arith) (omega arith) (class-byte ∙ rw (at-place t start h) (f .0))
+          simple-begins 5 3 n g (omega arith) (λ _. rw (at-place t start h) (class-parted (drop (start + 1) t) (f .0))) (λ z. omega arith) (omega arith) _ refl
+          (class-byte ∙ rw (at-place t start h) (f .0))

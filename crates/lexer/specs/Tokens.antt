@@ -10,7 +10,7 @@ use lib.ListN.{drop, length}
 use Rattle.format.specs.Reading.{pick}
 use Rattle.notation.specs.Bytes.{letter}
 use Rattle.notation.specs.Token as N
-use Rattle.notation.specs.Lexer.{Piece, piece, no}
+use Rattle.notation.specs.Lexer.{Piece, piece, no, gap}
 use Rattle.notation.specs.LexicalToken.{tokenOf}
 use Rattle.notation.specs.At.{partsOf, nameIn}
 use Rattle.chars.specs.declared.written.End.{End}
@@ -43,14 +43,16 @@ pub record Single (b : ℕ) : Type 0 where
   pub no-operator : b ≡ code "<" → ⊥
 
 -- What a token stands for, with the bytes behind it.
-unfoldable pub given : List ℕ → Token → Piece N.Token
-given text t = pick (eqb (t .kind) 11) no (piece (meant text t) (drop (t .next) text))
+unfoldable pub given : List ℕ → Token → (rest : List ℕ) → Piece N.Token
+given text t rest = pick (eqb (t .kind) 11) no (piece (meant text t) rest)
 
--- What is promised of the token that begins at a place: it is what the token there stands for, or neither is one; a byte at least belongs to it, and
--- its name is the one that stands in it.
+-- What is promised of the token that begins at a place: it is what the token there stands for, or neither is one; what comes behind it and a gap is the same
+-- from its `next` on; a byte at least belongs to it, and its name is the one that stands in it.
 pub record Begins (text : List ℕ) (start : ℕ) (t : Token) : Type 0 where
   pub here : t .start ≡ start
-  pub goes : tokenOf (drop start text) ≡ given text t
+  pub rest : List ℕ
+  pub goes : tokenOf (drop start text) ≡ given text t rest
+  pub skips : gap rest ≡ gap (drop (t .next) text)
   pub numbers : Numbers (t .kind) (t .symbol)
   pub one : 1 ≤ t .kind
   pub longer : t .kind ≤ 10 → start < t .next

@@ -17,7 +17,7 @@ ghost use Rattle.lexer.specs.Tokens.{made as Tokens·made, simple as Tok
 
 // kind: 0 the text's end, 1 `Name =`, 2 `>`, 3 `)`, 4 `/`, 5 what holds no expression, 6 what opens an operator in angle brackets, 7 `(`, 8 `&`, 9 `!`, 10 a suffix,
 // 11 no token. symbol: which of its kind, by the number of the symbol that it puts out (`Naming.kind`). truth: of a condition. start: where it
-// begins. name: where its name does, if it has one. next: the place behind it.
+// begins. name: where its name does, if it has one. next: the place behind it, or behind a gap that follows.
 pub struct Token {
     pub kind: u8,
     pub symbol: u8,
@@ -93,13 +93,13 @@ fn sign(text: &[u8], start: usize) -> Token
     }
 }
 
-// A name, which is a production's if a `=` follows.
+// A name, which is a production's if a `=` follows. If none does, the place behind the gap is given: the next token is the same from there.
 fn named(text: &[u8], start: usize) -> Token
     requires { ⌜ (start < length (now text)) × (letter (getD (now text) start 0) ≡ true) ⌝ }
     ensures { λ r. ⌜ Begins (now (text .entry)) start r ⌝ }
 {
     match gap_from(text, name_end(text, start + 1)) {
-        Gap::Open(_) => no_token(start),
+        Gap::Open(comment) => simple(5, 4, start, comment),
         Gap::At(i) => {
             if text.len() <= i {
                 return simple(5, 4, start, i);

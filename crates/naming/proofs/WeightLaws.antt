@@ -41,7 +41,7 @@ no-mark : (b : ℕ) → oneOf "'\"" b ≡ true → b ≡ 91 → ⊥
 no-mark b e z = let y : false ≡ true = rw z at e in no-way (cc)
 
 front : {l : Leaf} {s r : List ℕ} → Spelled (leaf l) s r → Front l s
-front (a-call (Lexical.name {b = b} e N E) g m) = no-class (no-letter b e) refl
+front (a-call (Lexical.name {b = b} e N E) f) = no-class (no-letter b e) refl
 front a-dot = no-class {b = 46} (λ z. omega arith) refl
 front (a-text {mark = mark} e C) = no-class (no-mark mark e) refl
 front (a-class {ps = ps} n D) = is-class {ps = ps} (omega arith) (parts-complete D)

@@ -77,7 +77,7 @@ pub record Takes (t : Token) (s r : List ℕ) : Type 0 where
 
 pub takes : {t : Token} {s r : List ℕ} → Spelled t s r → Takes t s r
 takes (a-head N S) = let h = named-shorter N in let k = then-sign S in record { weight = omega arith; names = omega arith }
-takes (a-call N g m) = let h = named-shorter N in let k = gap-shorter g in record { weight = omega arith; names = omega arith }
+takes (a-call N f) = let h = named-shorter N in record { weight = omega arith; names = omega arith }
 takes a-dot = record { weight = omega arith; names = omega arith }
 takes (a-text e C) = let h = chars-shorter C in record { weight = omega arith; names = omega arith }
 takes (a-class n D) = let h = parts-shorter D in record { weight = omega arith; names = omega arith }

@@ -16,7 +16,7 @@ use Rattle.notation.specs.Naming.{sameSymbols, member, all, distinct, ag
 use Rattle.notation.specs.Compile.{order, insert, sorted, place, entry, count, choices, emit, emitAll, roots, patternsIn, patternsAll, first, compile}
 use Rattle.notation.specs.At.{behindTruth, nameIn}
 use Rattle.notation.specs.Uses.{perToken}
-use Rattle.notation.specs.Places.{firstWhere, firstName, firstOver, imageUpTo, only, numbered}
+use Rattle.notation.specs.Places.{tokenPlace, firstWhere, firstName, firstOver, imageUpTo, only, numbered}
 use Rattle.notation.specs.OnePattern.{failing}
 use Rattle.notation.specs.Judged.{Answer, good, refused, judged}
 
@@ -50,9 +50,9 @@ abbrev number : Answer → ℕ
 number (good g) = 0
 number (refused n p) = n
 
--- In order: an empty text, no expression, a bracket, a mark, a class and a comment that do not close; what is not of the notation comes before an
--- undefined name; an undefined name, a table without a def; these before a name that is defined twice; two patterns, and two that are alike; more than 512
--- nodes, and two patterns before that; a quoted text of 64 and of 65 bytes.
+-- In order: an empty text, no expression, a bracket and a mark that do not close, a range upside down, a class with `^`, a comment that does not close; what is
+-- not of the notation comes before an undefined name; an undefined name, a table without a def; these before a name that is defined twice; such a name, and that before
+-- two patterns; two patterns, and two that are alike; 511 nodes and 513, and two patterns before these; a quoted text of 64 and of 65 bytes.
 refusals :
     map (λ t. number (answered 16384 t)) (
     bytes "" ∷ bytes "A = " ∷ bytes "A = (." ∷ bytes "A = '." ∷ bytes "A = [z-a]" ∷ bytes "A = [^a]" ∷ bytes "A = . /*" ∷ bytes "A = B )"
@@ -66,8 +66,8 @@ refusals :
 unfolding post symbols _▸▸_ close whole inBracket inAngle stream skip front second blockOn starOn nameFront nameBehind nameHere signHere truthHere quote atMark feed high low simple turn begun ranged _++ᵖ_ _∷ᵖ_ _then_ parts same word operator namedHere classed classHere token lexed lexemes grow trees came parsed sameSymbols member all distinct agree order insert sorted place entry count choices emit emitAll roots patternsIn patternsAll first compile behindTruth nameIn firstWhere firstName firstOver imageUpTo only numbered failing judged answered
 refusals = refl
 
--- Where the trouble is. In order: an undefined name, a table without a def, in angle brackets with blanks and a comment; the second definition; the second def;
--- the ninth table, the ninth condition; the long quoted text; the production with which there are 513 nodes.
+-- Where the trouble is. In order: an undefined name; a table without a def, in angle brackets with blanks and a comment; an undefined name behind a condition; the second
+-- definition; the second def; the ninth table, the ninth condition; the long quoted text; the production with which there are 513 nodes.
 placed :
     map (answered 16384) (
     bytes "A = B" ∷ bytes "A = < is /* T */ T >" ∷ bytes "A = <if ! C> B A = ."
@@ -80,7 +80,16 @@ placed :
 unfolding post symbols _▸▸_ close whole inBracket inAngle stream skip front second blockOn starOn nameFront nameBehind nameHere signHere truthHere quote atMark feed high low simple turn begun ranged _++ᵖ_ _∷ᵖ_ _then_ parts same word operator namedHere classed classHere token lexed lexemes grow trees came parsed sameSymbols member all distinct agree order insert sorted place entry count choices emit emitAll roots patternsIn patternsAll first compile behindTruth nameIn firstWhere firstName firstOver imageUpTo only numbered failing judged answered
 placed = refl
 
--- An image of 6 bytes, and a buffer of 5 and of 6.
+-- An image of 6 bytes: no room in a buffer of 5, and enough in one of 6.
 roomed : map (λ room. number (answered room (bytes "A = ''"))) (5 ∷ 6 ∷ []) ≡ 25 ∷ 0 ∷ []
 unfolding post symbols _▸▸_ close whole inBracket inAngle stream skip front second blockOn starOn nameFront nameBehind nameHere signHere truthHere quote atMark feed high low simple turn begun ranged _++ᵖ_ _∷ᵖ_ _then_ parts same word operator namedHere classed classHere token lexed lexemes grow trees came parsed sameSymbols member all distinct agree order insert sorted place entry count choices emit emitAll roots patternsIn patternsAll first compile behindTruth nameIn firstWhere firstName firstOver imageUpTo only numbered failing judged answered
 roomed = refl
+
+-- Where tokens stand, and the last of them where they stop: a comment that does not close, behind a name and behind a name with which a text begins; what is no token; an
+-- operator in which a comment does not close.
+stopped :
+    map (λ t. map (tokenPlace t) (lexemes t)) (
+    bytes "A = b /* c" ∷ bytes "A /**/ /* = ." ∷ bytes "A = . // c\n 'b" ∷ bytes "A = < is /* c" ∷ [])
+    ≡ (0 ∷ 4 ∷ 6 ∷ []) ∷ (0 ∷ 7 ∷ []) ∷ (0 ∷ 4 ∷ 12 ∷ []) ∷ (0 ∷ 4 ∷ []) ∷ []
+unfolding skip front second blockOn starOn nameFront nameBehind nameHere signHere quote atMark feed simple _∷ᵖ_ _then_ same word operator namedHere token lexed lexemes
+stopped = refl

@@ -1,19 +1,16 @@
 -- Each lexeme has its place in the text: the bytes from it on are an end of the text.
 use Prim.Native.Nat.{ℕ, zero, suc, _-_, _≤_}
 use mathlib.Core.Path.{_≡_, refl}
-use mathlib.Core.Bool.{Bool, true, false}
+use mathlib.Core.Bool.{Bool}
 use mathlib.Core.List.{List, [], _∷_, _++_}
 use native.Mathlib.Omega.{arith}
-use lib.Dec.{eqb}
 use lib.ListN.{length, drop}
 use Rattle.notation.specs.Tree.{Name, Part}
 use Rattle.notation.specs.Token.{Token, Lexeme}
 use Rattle.notation.specs.Lexical
 use Rattle.notation.specs.Lexical.{Line, over, ends, goes, Block, shuts, starred, goes-on, Gap, nothing, white, line, comment, Named, Char, escaped, hex, Chars, done, char, Parts, parts-end, single, range, Then, behind, Sign, Truth, negated, plain, plain-end, Spelled, a-head, a-call, a-dot, a-text, a-class, a-query, an-if, an-opener, an-on, a-greater, a-left, a-right, a-slash, an-and, a-not, an-option, a-star, a-plus}
-use Rattle.notation.specs.LexicalText.{Yields, yields}
-use Rattle.notation.specs.LexicalToken.{token-sound}
-use Rattle.notation.specs.Lexer.{Piece, piece, no, Front, line-comment, block-comment, solid, front, Inside, outside, in-line, opening, in-block, blockOn, starOn, Skipped, past, unclosed, skip, gap, token, lexed, lexemes}
-use Rattle.notation.specs.Lexer as L
+use Rattle.notation.specs.Unread.{Unclosed, LexesTo, stuck}
+use Rattle.notation.specs.Unread as U
 use Rattle.notation.specs.Places.{placeOf}
 use Rattle.notation.specs.Stops.{hereOf}
 
@@ -44,63 +41,6 @@ ends-nothing : (s : List ℕ) → Ends s []
 ends-nothing [] = whole
 ends-nothing (b ∷ s) = inner (ends-nothing s)
 
--- ## Gaps, closed or not
-
-module _ (text : List ℕ) where
-  next : {b : ℕ} {s : List ℕ} → Ends text (b ∷ s) → Ends text s
-  next e = ends-on e (inner whole)
-
-  -- What is known in a comment is an end of the text; and so is what comes of it.
-  abbrev Knows : Inside → Type 0
-  Knows outside = Unit {0}
-  Knows in-line = Unit {0}
-  Knows (opening c) = Ends text c
-  Knows (in-block c) = Ends text c
-  Knows (L.starred c) = Ends text c
-
-  abbrev Skips : Skipped → Type 0
-  Skips (past r) = Ends text r
-  Skips (unclosed c) = Ends text c
-
-  knows-block : (c : List ℕ) (b : ℕ) → Ends text c → Knows (blockOn c b)
-  unfolding blockOn
-  knows-block c b e = go (eqb b 42) refl
-    where
-      go : (t : Bool) → eqb b 42 ≡ t → Knows (blockOn c b)
-      go true q = rw q e
-      go false q = rw q e
-
-  knows-star : (c : List ℕ) (b : ℕ) → Ends text c → Knows (starOn c b)
-  unfolding starOn
-  knows-star c b e = go (eqb b 47) refl
-    where
-      go : (t : Bool) → eqb b 47 ≡ t → Knows (starOn c b)
-      go true q = rw q tt
-      go false q = rw q (knows-block c b e)
-
-  skip-ends : (s : List ℕ) (i : Inside) → Ends text s → Knows i → Skips (skip i s)
-  unfolding skip
-  skip-ends [] outside e k = e
-  skip-ends [] in-line e k = e
-  skip-ends [] (opening c) e k = k
-  skip-ends [] (in-block c) e k = k
-  skip-ends [] (L.starred c) e k = k
-  skip-ends (b ∷ s) outside e k = go (front b s) refl (λ i. skip-ends s i (next e))
-    where
-      go : (f : Front) → front b s ≡ f → ((i : Inside) → Knows i → Skips (skip i s)) → Skips (skip outside (b ∷ s))
-      go L.white q i = rw (q, skip) (i outside tt)
-      go line-comment q i = rw (q, skip) (i in-line tt)
-      go block-comment q i = rw (q, skip) (i (opening (b ∷ s)) e)
-      go solid q i = rw (q, skip) e
-  skip-ends (b ∷ s) in-line e k = go (eqb b 10) refl (λ i. skip-ends s i (next e))
-    where
-      go : (t : Bool) → eqb b 10 ≡ t → ((i : Inside) → Knows i → Skips (skip i s)) → Skips (skip in-line (b ∷ s))
-      go true q i = rw (q, skip) (i outside tt)
-      go false q i = rw (q, skip) (i in-line tt)
-  skip-ends (b ∷ s) (opening c) e k = skip-ends s (in-block c) (next e) k
-  skip-ends (b ∷ s) (in-block c) e k = skip-ends s (blockOn c b) (next e) (knows-block c b k)
-  skip-ends (b ∷ s) (L.starred c) e k = skip-ends s (starOn c b) (next e) (knows-star c b k)
-
 -- ## Tokens
 
 line-ends : {s r : List ℕ} → Line s r → Ends s r
@@ -113,7 +53,7 @@ block-ends shuts = inner (inner whole)
 block-ends (starred n k) = inner (block-ends k)
 block-ends (goes-on n k) = inner (block-ends k)
 
-gap-ends : {s r : List ℕ} → Gap s r → Ends s r
+pub gap-ends : {s r : List ℕ} → Gap s r → Ends s r
 gap-ends (nothing d) = whole
 gap-ends (white e g) = inner (gap-ends g)
 gap-ends (line l g) = inner (inner (ends-on (line-ends l) (gap-ends g)))
@@ -147,18 +87,18 @@ truth-ends plain-end = whole
 then-ends : {P : (s r : List ℕ) → Type 0} {s r : List ℕ} → ((t : List ℕ) → P t r → Ends t r) → Then P s r → Ends s r
 then-ends f (behind {t = t} g p) = ends-on (gap-ends g) (f t p)
 
-then-named : {n : Name} {s r : List ℕ} → Then (Named n) s r → Ends s r
+pub then-named : {n : Name} {s r : List ℕ} → Then (Named n) s r → Ends s r
 then-named = then-ends (λ t. named-ends)
 
 then-sign : {c : ℕ} {s r : List ℕ} → Then (Sign c) s r → Ends s r
 then-sign = then-ends (λ t. sign-ends)
 
-then-truth : {w : Bool} {s r : List ℕ} → Then (Truth w) s r → Ends s r
+pub then-truth : {w : Bool} {s r : List ℕ} → Then (Truth w) s r → Ends s r
 then-truth = then-ends (λ t. truth-ends)
 
-token-ends : {t : Token} {s r : List ℕ} → Spelled t s r → Ends s r
+pub token-ends : {t : Token} {s r : List ℕ} → Spelled t s r → Ends s r
 token-ends (a-head N S) = ends-on (named-ends N) (then-sign S)
-token-ends (a-call N g m) = ends-on (named-ends N) (gap-ends g)
+token-ends (a-call N f) = named-ends N
 token-ends a-dot = inner whole
 token-ends (a-text e C) = inner (chars-ends C)
 token-ends (a-class n D) = inner (parts-ends D)
@@ -179,6 +119,12 @@ token-ends a-plus = inner whole
 
 -- ## The lexemes of a text
 
+unclosed-ends : {s c : List ℕ} → Unclosed s c → Ends s c
+unclosed-ends (U.never n) = whole
+unclosed-ends (U.white e u) = inner (unclosed-ends u)
+unclosed-ends (U.line l u) = inner (inner (ends-on (line-ends l) (unclosed-ends u)))
+unclosed-ends (U.comment k u) = inner (inner (ends-on (block-ends k) (unclosed-ends u)))
+
 module _ (text : List ℕ) where
   -- From every lexeme on, and where none is left.
   abbrev AllEnd : List Lexeme → Type 0
@@ -192,22 +138,13 @@ module _ (text : List ℕ) where
   end-more l ls e f zero = e
   end-more l ls e f (suc i) = f i
 
-  lexed-end : (fuel : ℕ) (s : List ℕ) → Ends text s → AllEnd (lexed fuel s)
-  unfolding lexed
-  lexed-end zero s e = end-more _ [] e end-none
-  lexed-end (suc fuel) s e = go (gap s) refl (skip-ends text s outside e tt) (λ r. lexed-end fuel r)
-    where
-      on : (b : ℕ) (u : List ℕ) → gap s ≡ past (b ∷ u) → Ends text (b ∷ u) → (p : Piece Token) → token b u ≡ p → Yields (λ t r. Spelled t (b ∷ u) r) p
-          → ((r : List ℕ) → Ends text r → AllEnd (lexed fuel r)) → AllEnd (lexed (suc fuel) s)
-      on b u q k no f y i = rw (q, f, lexed) (end-more _ [] k end-none)
-      on b u q k (piece t r) f (yields S) i = rw (q, f, lexed) (end-more _ (lexed fuel r) k (i r (ends-on k (token-ends S))))
+  all-end : {s : List ℕ} {ls : List Lexeme} → LexesTo s ls → Ends text s → AllEnd ls
+  all-end (U.finish g) e = end-none
+  all-end (U.token {ls = ls} g S L) e =
+      let here = ends-on e (gap-ends g) in end-more _ ls here (all-end L (ends-on here (token-ends S)))
+  all-end (stuck g n) e = end-more _ [] (ends-on e (gap-ends g)) end-none
+  all-end (U.unclosed u) e = end-more _ [] (ends-on e (unclosed-ends u)) end-none
 
-      go : (o : Skipped) → gap s ≡ o → Skips text (gap s) → ((r : List ℕ) → Ends text r → AllEnd (lexed fuel r)) → AllEnd (lexed (suc fuel) s)
-      go (unclosed c) q k i = rw (q, lexed) (end-more _ [] (rw q at k) end-none)
-      go (past []) q k i = rw (q, lexed) end-none
-      go (past (b ∷ u)) q k i = on b u q (rw q at k) (token b u) refl (token-sound b u) i
-
-  -- THE BYTES FROM A LEXEME ON ARE AN END OF THE TEXT.
-  pub lexemes-end : (i : ℕ) → Ends text (hereOf (drop i (lexemes text)))
-  unfolding lexemes
-  lexemes-end = lexed-end (suc (length text)) text whole
+-- THE BYTES FROM A LEXEME ON ARE AN END OF THE TEXT.
+pub lexemes-end : {text : List ℕ} {ls : List Lexeme} → LexesTo text ls → (i : ℕ) → Ends text (hereOf (drop i ls))
+lexemes-end {text} L = all-end text L whole

@@ -228,11 +228,11 @@ operator ifs s = truth s then λ w s. name s then λ c s. sign (code ">") s then
 operator ons s = truth s then λ w s. name s then λ c s. piece (opens (on c w)) s
 operator unknown s = no
 
--- A name is a production's if a `=` follows.
-unfoldable pub namedHere : Name → Skipped → Piece Token
-namedHere n (unclosed c) = no
-namedHere n (past []) = piece (leaf (call n)) []
-namedHere n (past (b ∷ s)) = pick (eqb b (code "=")) (piece (head n) s) (piece (leaf (call n)) (b ∷ s))
+-- A name is a production's if a `=` follows. `r` is what comes right behind the name.
+unfoldable pub namedHere : Name → (r : List ℕ) → Skipped → Piece Token
+namedHere n r (unclosed c) = piece (leaf (call n)) r
+namedHere n r (past []) = piece (leaf (call n)) r
+namedHere n r (past (b ∷ s)) = pick (eqb b (code "=")) (piece (head n) s) (piece (leaf (call n)) r)
 
 unfoldable pub classed : Piece (List Part) → Piece Token
 classed no = no
@@ -247,7 +247,7 @@ classHere (b ∷ s) = pick (eqb b (code "^")) no (classed (parts begin fresh (b 
 -- The token that a byte begins, `s` being what comes behind the byte.
 unfoldable pub token : ℕ → List ℕ → Piece Token
 token b s =
-    pick (letter b) (namedHere (nameFront (b ∷ s)) (gap (nameBehind (b ∷ s))))
+    pick (letter b) (namedHere (nameFront (b ∷ s)) (nameBehind (b ∷ s)) (gap (nameBehind (b ∷ s))))
     (pick (eqb b (code ".")) (piece (leaf any) s)
     (pick (oneOf "'\"" b) (quote b fresh s then λ x s. piece (leaf (quoted x)) s)
     (pick (eqb b (code "[")) (classHere s)

@@ -4,16 +4,19 @@
 --   Gap    <- ([ \t\n\r] / '//' (!'\n' .)* ('\n' / !.) / '/*' (!'*/' .)* '*/')*
 --   Name   <- [A-Za-z_] [A-Za-z_0-9]*
 --   End    <- ![A-Za-z_0-9]
---   Char   <- '\\x' Hex Hex / '\\' [nrt\\'"\[\]^-] / ![\\\n\r] .
 --   Quoted <- ['] (!['] Char)* ['] / ["] (!["] Char)* ["]
 --   Class  <- '[' !'^' Part+ ']'
 --   Part   <- !']' Char '-' !']' Char / !']' Char
---   Token  <- Name Gap '=' / Name Gap !'=' / Quoted / Class / [.()/&!?*+>]
+--   Char   <- '\\x' Hex Hex / '\\' [nrt\\'"\[\]^-] / ![\\\n\r] .
+--   Hex    <- [0-9A-Fa-f]
+--   Token  <- Name Gap '=' / Name !(Gap '=') / Quoted / Class / [.()/&!?*+>]
 --           / '<' Gap ('def' / 'block' / 'local') End Gap Name
+--           / '<' Gap 'on' End Gap ('!' Gap)? Name
 --           / '<' Gap ('match' / 'isa' / 'is' / 'exists') End Gap Name Gap '>'
 --           / '<' Gap 'if' End Gap ('!' Gap)? Name Gap '>'
---           / '<' Gap 'on' End Gap ('!' Gap)? Name
 --   Text   <- Gap (Token Gap)* !.
+--
+-- and a range in a class must not go down.
 use Prim.Native.Nat.{ℕ, _+_, _*_, _≤_}
 use Prim.Native.Char.{code}
 use mathlib.Core.Path.{_≡_}
@@ -116,13 +119,10 @@ pub data Truth : Bool → (s r : List ℕ) → Type 0 where
   plain : {b : ℕ} {s : List ℕ} → (b ≡ code "!" → ⊥) → Truth true (b ∷ s) (b ∷ s)
   plain-end : Truth true [] []
 
-pub data NoEquals : List ℕ → Type 0 where
-  end-of-text : NoEquals []
-  no-equals : {b : ℕ} {s : List ℕ} → (b ≡ code "=" → ⊥) → NoEquals (b ∷ s)
-
+-- A name is a production's if a gap and a `=` follow. A comment that is not closed ends no gap, so no `=` follows then.
 pub data Spelled : Token → (s r : List ℕ) → Type 0 where
   a-head : {n : Name} {s t r : List ℕ} → Named n s t → Then (Sign (code "=")) t r → Spelled (head n) s r
-  a-call : {n : Name} {s t r : List ℕ} → Named n s t → Gap t r → NoEquals r → Spelled (leaf (call n)) s r
+  a-call : {n : Name} {s t : List ℕ} → Named n s t → ((r : List ℕ) → Then (Sign (code "=")) t r → ⊥) → Spelled (leaf (call n)) s t
   a-dot : {r : List ℕ} → Spelled (leaf any) (code "." ∷ r) r
   a-text : {mark : ℕ} {x s r : List ℕ} → oneOf "'\"" mark ≡ true → Chars mark x s r → Spelled (leaf (quoted x)) (mark ∷ s) r
   a-class : {p : Part} {ps : List Part} {s r : List ℕ} → NoCaret s → Parts (p ∷ ps) s r → Spelled (leaf (class p ps)) (code "[" ∷ s) r

@@ -13,7 +13,7 @@ use Rattle.notation.specs.Bytes.{bytes, oneOf, blank, letter, nameByte}
 use Rattle.notation.specs.Tree.{Name, Part, Query, match, is, isa, exists, Leaf, any, quoted, class, call, query, if, Prefix, and, not, Suffix, option, star, plus, Opener, def, block, local, on}
 use Rattle.notation.specs.Token.{Token, head, leaf, opens, closes, left, right, slash, before, after, bad}
 use Rattle.notation.specs.Lexical
-use Rattle.notation.specs.Lexical.{Gap, Named, Then, behind, Sign, Truth, negated, plain, plain-end, NoEquals, end-of-text, no-equals, Opens, a-def, a-block, a-local, Asks, a-match, an-is, an-isa, an-exists, Chars, Parts, NoCaret, no-caret, Spelled, a-head, a-call, a-dot, a-text, a-class, a-query, an-if, an-opener, an-on, a-greater, a-left, a-right, a-slash, an-and, a-not, an-option, a-star, a-plus}
+use Rattle.notation.specs.Lexical.{Gap, Named, Then, behind, Sign, Truth, negated, plain, plain-end, Opens, a-def, a-block, a-local, Asks, a-match, an-is, an-isa, an-exists, Chars, Parts, NoCaret, no-caret, Spelled, a-head, a-call, a-dot, a-text, a-class, a-query, an-if, an-opener, an-on, a-greater, a-left, a-right, a-slash, an-and, a-not, an-option, a-star, a-plus}
 use Rattle.notation.specs.LexicalGap.{gap-skips, Gives, gives, gives-none, gap-sound, named-front, named-sound}
 use Rattle.notation.specs.LexicalText.{Yields, yields, yields-none, yield, quote-sound, quote-complete, parts-sound, parts-complete, no-way}
 use Rattle.notation.specs.Lexer.{Piece, piece, no, _then_, Skipped, past, unclosed, gap, nameFront, nameBehind, nameHere, name, signHere, sign, truthHere, truth, fresh, quote, parts, begin, Word, opener, asks, ifs, ons, unknown, same, word, operator, namedHere, classed, classHere, token}
@@ -149,17 +149,35 @@ asks-word an-exists = refl
 
 -- ## Tokens
 
-named-sound-here : {n : Name} (s : List ℕ) {t : List ℕ} → Named n s t → Yields (Spells s) (namedHere n (gap t))
+-- Behind a name stands a `=`, or none does.
+data Equals (t : List ℕ) : Skipped → Type 0 where
+  equals : {r : List ℕ} → Then (Sign 61) t r → Equals t (past (61 ∷ r))
+  none-here : {o : Skipped} → ((n : Name) → namedHere n t o ≡ piece (leaf (call n)) t) → ((r : List ℕ) → Then (Sign 61) t r → ⊥) → Equals t o
+
+-- No `=` stands behind a gap that something else, or nothing, stands behind.
+no-sign : {t r : List ℕ} {o : Skipped} → gap t ≡ o → (o ≡ past (61 ∷ r) → ⊥) → Then (Sign 61) t r → ⊥
+no-sign e n (behind g Lexical.sign) = n (sym e ∙ gap-skips g)
+
+equals-or-not : (t : List ℕ) (o : Skipped) → gap t ≡ o → Gives (Gap t) o → Equals t o
 unfolding namedHere
-named-sound-here {n} s {t} N = go (gap-sound t)
+equals-or-not t (unclosed c) e g = none-here (λ n. refl) (λ r. no-sign e (λ z. no-way (cc)))
+equals-or-not t (past []) e g = none-here (λ n. refl) (λ r. no-sign e (λ z. no-way (cc)))
+equals-or-not t (past (b ∷ u)) e (gives g) = go (eqb b 61) refl
   where
-    go : {o : Skipped} → Gives (Gap t) o → Yields (Spells s) (namedHere n o)
-    go gives-none = yields-none
-    go (gives {x = []} g) = yields (a-call N g end-of-text)
-    go (gives {x = b ∷ u} g) =
-        pick-with (Yields (Spells s)) (eqb b 61)
-        (λ e. yields (a-head N (behind g (subst (λ b. Sign 61 (b ∷ u) u) (sym (eqb-true b 61 e)) Lexical.sign))))
-        (λ e. yields (a-call N g (no-equals (eqb-false b 61 e))))
+    go : (x : Bool) → eqb b 61 ≡ x → Equals t (past (b ∷ u))
+    go true q = subst (λ b. Equals t (past (b ∷ u))) (sym (eqb-true b 61 q)) (equals (behind (subst (λ b. Gap t (b ∷ u)) (eqb-true b 61 q) g) Lexical.sign))
+    go false q = none-here {o = past (b ∷ u)} (λ n. rw q) (λ r. no-sign e (λ z. eqb-false b 61 q (cc)))
+
+equals-behind : (t : List ℕ) → Equals t (gap t)
+equals-behind t = equals-or-not t (gap t) refl (gap-sound t)
+
+named-sound-here : {n : Name} (s : List ℕ) {t : List ℕ} → Named n s t → Yields (Spells s) (namedHere n t (gap t))
+unfolding namedHere
+named-sound-here {n} s {t} N = go (equals-behind t)
+  where
+    go : {o : Skipped} → Equals t o → Yields (Spells s) (namedHere n t o)
+    go (equals S) = yields (a-head N S)
+    go (none-here e f) = rw (e n) (yields (a-call N f))
 
 class-sound : (s : List ℕ) → Yields (Spells (91 ∷ s)) (classHere s)
 unfolding classHere classed
@@ -206,7 +224,7 @@ unfoldable pub tokenOf : List ℕ → Piece Token
 tokenOf [] = no
 tokenOf (b ∷ s) = token b s
 
-named-token : {n : Name} {s t : List ℕ} → Named n s t → tokenOf s ≡ namedHere n (gap t)
+named-token : {n : Name} {s t : List ℕ} → Named n s t → tokenOf s ≡ namedHere n t (gap t)
 unfolding tokenOf token
 named-token (Lexical.name {b = b} {n = n} {r = r} e N E) =
     let f = named-front (Lexical.name {b = b} {n = n} {r = r} e N E) in rw (e, f .0, f .1)
@@ -224,15 +242,17 @@ text-token mark s e = go (eqb mark 39) (eqb mark 34) refl refl
 real-mark : (mark : ℕ) → oneOf "'\"" mark ≡ true → mark ≡ 92 → ⊥
 real-mark mark e z = let y : false ≡ true = rw z at e in no-way (cc)
 
-call-here : {n : Name} {r : List ℕ} → NoEquals r → namedHere n (past r) ≡ piece (leaf (call n)) r
-unfolding namedHere
-call-here end-of-text = refl
-call-here (no-equals {b = b} m) = rw (ne-eqb b 61 m)
+call-here : (n : Name) (t : List ℕ) → ((r : List ℕ) → Then (Sign 61) t r → ⊥) → namedHere n t (gap t) ≡ piece (leaf (call n)) t
+call-here n t f = go (equals-behind t)
+  where
+    go : {o : Skipped} → Equals t o → namedHere n t o ≡ piece (leaf (call n)) t
+    go (equals {r = r} S) = absurd (f r S)
+    go (none-here e g) = e n
 
 pub token-complete : {t : Token} {s r : List ℕ} → Spelled t s r → tokenOf s ≡ piece t r
 unfolding tokenOf token operator namedHere classed _then_
 token-complete (a-head N (behind g Lexical.sign)) = named-token N ∙ rw (gap-skips g)
-token-complete (a-call N g m) = named-token N ∙ rw (gap-skips g) (call-here m)
+token-complete (a-call {n = n} {t = t} N f) = named-token N ∙ call-here n t f
 token-complete a-dot = refl
 token-complete (a-text {mark = mark} {x = x} {s = s} {r = r} e C) =
     text-token mark s e ∙ then-goes (λ x r. piece (leaf (quoted x)) r) x r (quote-complete mark (real-mark mark e) C)

@@ -15,10 +15,13 @@ pub mod Compile
 pub mod Limits
 pub mod Cases
 pub mod Lexical
+pub mod Unread
 pub mod LexicalGap
 pub mod LexicalText
 pub mod LexicalToken
 pub mod Text
+pub mod ShorterLaws
+pub mod UnreadLaws
 pub mod TextLaws
 pub mod Build
 pub mod Uses
@@ -41,6 +44,7 @@ pub mod Said
 pub mod Kept
 pub mod PlacesLaws
 pub mod EndsLaws
+pub mod NameLaws
 pub mod JudgedLaws
 pub mod SaidLaws
 pub mod AlikeLaws

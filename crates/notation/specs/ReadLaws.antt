@@ -148,7 +148,7 @@ module _ (T C N : ℕ) where
 
   token-bytes : {t : Token} {s r : List ℕ} (ts : List Token) → Spelled t s r → AllBytes s → (AllBytes r → TokensRead ts) → TokensRead (t ∷ ts)
   token-bytes ts (a-head M S) f k = k (then-sign S (named-bytes M f))
-  token-bytes ts (a-call M g m) f k = (tt, k (gap-bytes g (named-bytes M f)))
+  token-bytes ts (a-call M g) f k = (tt, k (named-bytes M f))
   token-bytes ts a-dot f k = (tt, k (f .1))
   token-bytes ts (a-text e D) f k = let h = chars-bytes D (f .1) in (h .0, k (h .1))
   token-bytes ts (a-class n D) f k = let h = parts-bytes T C N D (f .1) in (h .0, k (h .1))

@@ -6,7 +6,7 @@ use mathlib.Core.Logic.{_↔_}
 use mathlib.Core.List.{List, []}
 use native.Mathlib.Omega.{arith}
 use lib.Dec.{ltb, leb}
-use lib.ListN.{length, drop, length-drop}
+use lib.ListN.{length, length-drop}
 use borrow.Author.Tests.{ltb-true, ltb-false, leb-true, leb-false, le-ltb}
 use Rattle.format.specs.Written.{encode}
 use Rattle.format.specs.Image.{readImage}
@@ -18,10 +18,9 @@ use Rattle.grammar.specs.Sound.{Bytes}
 use Rattle.notation.specs.Tree.{Production}
 use Rattle.notation.specs.Token.{Token}
 use Rattle.notation.specs.Notation.{Productions, last, more}
-use Rattle.notation.specs.Lexer.{lexemes, tokens}
+use Rattle.notation.specs.Lexer.{tokens}
 use Rattle.notation.specs.LexicalText.{no-way}
-use Rattle.notation.specs.Stream.{streamed}
-use Rattle.notation.specs.Reader.{trees, came, Parsed, reads, unread as unparsed, parsed}
+use Rattle.notation.specs.Reader.{Parsed, reads, unread as unparsed, parsed}
 use Rattle.notation.specs.Text.{ReadsAs}
 use Rattle.notation.specs.TextLaws.{taken, derived, one-reading, lexes-once}
 use Rattle.notation.specs.Naming.{allDefined, onceNamed, onePattern}
@@ -30,22 +29,12 @@ use Rattle.notation.specs.Compile.{compile}
 use Rattle.notation.specs.Means.{AllMean, Starts}
 use Rattle.notation.specs.CompileLaws.{productionNumber, tableNumber, conditionNumber, compile-means, compile-starts}
 use Rattle.notation.specs.SoundLaws.{within-limits, sound-of}
-use Rattle.notation.specs.Places.{placeOf}
-use Rattle.notation.specs.EndsLaws.{ends-placed, lexemes-end}
-use Rattle.notation.specs.Stops.{hereOf, StopsAt}
-use Rattle.notation.specs.StopsLaws.{one-place, stops-unread, derived-came}
+use Rattle.notation.specs.StopsLaws.{one-place, stops-unread}
 use Rattle.notation.specs.Judged.{Answer, good, refused, judged}
 use Rattle.notation.specs.JudgedLaws.{Refused, judged-undefined, judged-twice, judged-differs, judged-past, judged-no-room, judged-good, judged-inside}
 use Rattle.notation.specs.Said.{Says, too-long, unread, read}
 use Rattle.notation.specs.Kept.{Read, Taken, Unreadable, underivable, Undefined, NamedTwice, TwoPatterns, PastLimit, NoRoom, Due, due-20, due-21, due-22, due-23, due-24, due-25}
 use Rattle.notation.specs.Kept as K
-
--- A text that reads as productions stops nowhere.
-no-stop : {text : List ℕ} {ps : List Production} {p : ℕ} → ReadsAs text ps → StopsAt text p → ⊥
-no-stop {text} {ps} r s =
-    let f : came (streamed (tokens text)) ≡ false = stops-unread (tokens text) .0 (s .number, s .stops) in
-    let t : came (streamed (tokens text)) ≡ true = rw (lexes-once (r .lexes)) (derived-came (r .derives)) in
-    no-way (cc)
 
 -- ONE ANSWER.
 pub one-answer : {text : List ℕ} {room : ℕ} {a b : Answer} → Says text room a → Says text room b → a ≡ b
@@ -54,27 +43,14 @@ one-answer (too-long h) (unread k s) = absurd (omega arith)
 one-answer (too-long h) (read k r) = absurd (omega arith)
 one-answer (unread h s) (too-long k) = absurd (omega arith)
 one-answer (unread {p = p} h s) (unread {p = q} k t) = ap (λ p. refused 20 p) (one-place p q s t)
-one-answer (unread h s) (read k r) = absurd (no-stop r s)
+one-answer {text} (unread {p = p} h s) (read {ps = ps} k r) = absurd (stops-unread text .0 (p, s) ps r)
 one-answer (read h r) (too-long k) = absurd (omega arith)
-one-answer (read h r) (unread k s) = absurd (no-stop r s)
+one-answer {text} (read {ps = ps} h r) (unread {p = p} k s) = absurd (stops-unread text .0 (p, s) ps r)
 one-answer {text} {room} (read {ps = ps} h r) (read {ps = qs} k t) =
     let same-lexemes : r .lexemes ≡ t .lexemes = sym (lexes-once (r .lexes)) ∙ lexes-once (t .lexes) in
     ap (λ ps. judged text room ps (r .lexemes)) (one-reading text ps qs r t) ∙ ap (λ ls. judged text room qs ls) same-lexemes
 
 -- ## Each refusal that is due is given, and each text that is taken
-
--- A text that has no reading stops somewhere.
-stop-of : (text : List ℕ) → ((ps : List Production) → ReadsAs text ps → ⊥) → (p : ℕ) × StopsAt text p
-unfolding parsed
-stop-of text f = go (came (streamed (tokens text))) refl
-  where
-    go : (b : Bool) → came (streamed (tokens text)) ≡ b → (p : ℕ) × StopsAt text p
-    go true e = absurd (f (trees (streamed (tokens text))) (derived text (trees (streamed (tokens text))) (rw e)))
-    go false e =
-        let s = stops-unread (tokens text) .1 e in (
-          placeOf text (hereOf (drop (s .0) (lexemes text))),
-          record { number = s .0; stops = s .1; inside = omega arith; here = ends-placed (lexemes-end text (s .0)) },
-        )
 
 -- The text is refused with this number, at some place.
 abbrev pub RefusedWith : (text : List ℕ) (room number : ℕ) → Type 0
@@ -87,7 +63,7 @@ module _ {text : List ℕ} {room : ℕ} where
     where
       go : (b : Bool) → ltb 65535 (length text) ≡ b → RefusedWith text room 20
       go true e = (65535, too-long (ltb-true 65535 (length text) e))
-      go false e = let s = stop-of text f in (s .0, unread (ltb-false 65535 (length text) e) (s .1))
+      go false e = let s = stops-unread text .1 f in (s .0, unread (ltb-false 65535 (length text) e) (s .1))
 
   reading-said : {ps : List Production} {n : ℕ} (r : Read text ps) → Refused n (judged text room ps (r .reading .lexemes)) → RefusedWith text room n
   reading-said r j = (j .0, subst (Says text room) (j .1) (read (r .short) (r .reading)))

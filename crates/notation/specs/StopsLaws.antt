@@ -16,10 +16,15 @@ use Rattle.notation.specs.Token.{Token, head, leaf, opens, closes, left,
 use Rattle.notation.specs.Notation.{Productions}
 use Rattle.notation.specs.Stream.{Symbol, Stream, _▸▸_, Pending, bracket, angle, waits, half, Closing, item, alternative, end, close, whole, inBracket, inAngle, Mode, start, want, behind, stream, streamed}
 use Rattle.notation.specs.StreamLaws.{next, closes-prefix, closes-row, closes-choice}
-use Rattle.notation.specs.Lexer.{lexemes}
+use Rattle.notation.specs.Lexer.{lexemes, tokens}
+use Rattle.notation.specs.UnreadLaws.{lexes-to, one-way, lexes-whole}
 use Rattle.notation.specs.LexicalText.{no-way}
 use Rattle.notation.specs.Reader.{came, trees, reads, unread, parsed}
 use Rattle.notation.specs.ReaderLaws.{exact, parsed-derived}
+use Rattle.notation.specs.Text.{ReadsAs}
+use Rattle.notation.specs.TextLaws.{derived}
+use Rattle.notation.specs.Places.{placeOf}
+use Rattle.notation.specs.EndsLaws.{ends-placed, lexemes-end}
 use Rattle.notation.specs.Stops.{GoesOn, Stops, hereOf, StopsAt}
 
 -- ## One stop
@@ -45,12 +50,14 @@ one-stop i j S T = go (ltb i j) (ltb j i) refl refl
 -- AT ONE PLACE.
 pub one-place : {text : List ℕ} (p q : ℕ) → StopsAt text p → StopsAt text q → p ≡ q
 one-place {text} p q S T =
-    let e : drop p text ≡ drop q text = S .here ∙ ap (λ i. hereOf (drop i (lexemes text))) (one-stop (S .number) (T .number) (S .stops) (T .stops)) ∙ sym (T .here) in
+    let ls : S .lexemes ≡ T .lexemes = one-way (S .lexes) (T .lexes) in
+    let i : S .number ≡ T .number = one-stop (S .number) (T .number) (S .stops) (rw ls (T .stops)) in
+    let e : drop p text ≡ drop q text = S .here ∙ rw (ls, i) (sym (T .here)) in
     omega (arith, S .inside, T .inside, ap length e, length-drop p text, length-drop q text)
 
 -- ## Whether the walk comes to the end, and whether the notation derives something
 
-pub derived-came : {ts : List Token} {ps : List Production} → Productions ts ps → came (streamed ts) ≡ true
+derived-came : {ts : List Token} {ps : List Production} → Productions ts ps → came (streamed ts) ≡ true
 unfolding parsed
 derived-came {ts} {ps} P = go (came (streamed ts)) refl
   where
@@ -234,10 +241,28 @@ not-derived {ts} {ps} i S P = go (ltb i (length ts)) refl
     go true e = S .dead (ltb-true i (length ts) e) (earlier ts (suc i) (length ts) (ltb-true i (length ts) e) ([], ps, rw (append-nil, take-length) P))
     go false e = S .unfinished (let h = ltb-false i (length ts) e in omega (arith, S .inside)) ps P
 
--- THE READING STOPS EXACTLY IN TOKENS THAT ARE NOT OF THE NOTATION.
-pub stops-unread : (ts : List Token) → ((i : ℕ) × Stops ts i) ↔ (came (streamed ts) ≡ false)
-stops-unread ts = (λ s. go (s .0) (s .1) (came (streamed ts)) refl, found ts [] start [] (λ us. refl))
+-- TOKENS STOP EXACTLY IF THE NOTATION DERIVES NOTHING FROM THEM.
+pub stops-underived : (ts : List Token) → ((i : ℕ) × Stops ts i) ↔ ((ps : List Production) → Productions ts ps → ⊥)
+stops-underived ts = (λ s ps. not-derived (s .0) (s .1), λ f. go f (came (streamed ts)) refl)
   where
-    go : (i : ℕ) → Stops ts i → (b : Bool) → came (streamed ts) ≡ b → came (streamed ts) ≡ false
-    go i S true e = absurd (not-derived i S (came-derived ts e))
-    go i S false e = e
+    go : ((ps : List Production) → Productions ts ps → ⊥) → (b : Bool) → came (streamed ts) ≡ b → (i : ℕ) × Stops ts i
+    go f true e = absurd (f (trees (streamed ts)) (came-derived ts e))
+    go f false e = found ts [] start [] (λ us. refl) e
+
+-- ## The same of a text
+
+no-reading : {text : List ℕ} {p : ℕ} → StopsAt text p → (ps : List Production) → ReadsAs text ps → ⊥
+no-reading s ps r =
+    not-derived {ps = ps} (s .number) (s .stops) (rw (one-way (s .lexes) (lexes-whole (r .lexes))) (r .derives))
+
+stop-of : (text : List ℕ) → ((ps : List Production) → ReadsAs text ps → ⊥) → (p : ℕ) × StopsAt text p
+stop-of text f =
+    let ls = lexemes text in
+    let s = stops-underived (tokens text) .1 (λ ps P. f ps (derived text ps (exact (tokens text) ps .1 P))) in (
+      placeOf text (hereOf (drop (s .0) ls)),
+      record { lexemes = ls; lexes = lexes-to text; number = s .0; stops = s .1; inside = omega arith; here = ends-placed (lexemes-end (lexes-to text) (s .0)) },
+    )
+
+-- THE READING OF A TEXT STOPS SOMEWHERE EXACTLY IF THE TEXT HAS NO READING.
+pub stops-unread : (text : List ℕ) → ((p : ℕ) × StopsAt text p) ↔ ((ps : List Production) → ReadsAs text ps → ⊥)
+stops-unread text = (λ s. no-reading (s .1), stop-of text)

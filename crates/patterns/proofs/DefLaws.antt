@@ -13,7 +13,7 @@ use Rattle.notation.specs.Lexical as Lexical
 use Rattle.notation.specs.LexicalGap.{Gives, gives, gap-sound, gap-skips, named-front}
 use Rattle.notation.specs.LexicalText.{Yields, yields, no-way}
 use Rattle.notation.specs.LexicalToken.{token-sound, name-complete, truth-complete}
-use Rattle.notation.specs.TextLaws.{gap-shorter, token-shorter}
+use Rattle.notation.specs.ShorterLaws.{gap-shorter, token-shorter}
 use Rattle.notation.specs.Lexer.{Piece, piece, no, Skipped, past, unclosed, gap, skip, nameFront, nameBehind, truth, _then_, token, lexed, lexemes, tokens}
 use Rattle.notation.specs.At.{nameIn, behindTruth}
 use Rattle.notation.specs.Bodies.{Body, bodiesIn, noBody}
@@ -82,7 +82,7 @@ record DefAt (n : Name) (u v : List ℕ) : Type 0 where
 
 def-at : {t : Token} {u v : List ℕ} → Spelled t u v → (n : Name) → t ≡ opens (def n) → DefAt n u v
 def-at (a-head N S) n e = no-way (cc)
-def-at (a-call N g m) n e = no-way (cc)
+def-at (a-call N f) n e = no-way (cc)
 def-at a-dot n e = no-way (cc)
 def-at (a-text x C) n e = no-way (cc)
 def-at (a-class x D) n e = no-way (cc)

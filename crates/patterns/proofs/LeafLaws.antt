@@ -50,7 +50,7 @@ is-leaf {k} {l} {u} e w = let z : k ≡ l = cc in subst (Written u) z w
 
 written : {t : N.Token} {u v : List ℕ} → Spelled t u v → (l : Leaf) → t ≡ leaf l → Written u l
 written (a-head N S) l e = no-way (cc)
-written (a-call N g m) l e = is-leaf e as-call
+written (a-call N f) l e = is-leaf e as-call
 written a-dot l e = is-leaf e as-any
 written (a-text {mark = mark} {x = x} {r = r} m C) l e =
     is-leaf e (as-text refl (record { what = x; rest = r; is = quote-complete mark (real-mark mark m) C }))

@@ -14,6 +14,7 @@ use Rattle.notation.specs.Token as N
 use Rattle.notation.specs.Lexer.{lexemes, tokens}
 use Rattle.notation.specs.Stream.{Stream, ended, broken, start, stream, streamed}
 use Rattle.notation.specs.Reader.{came}
+use Rattle.notation.specs.UnreadLaws.{lexes-to}
 use Rattle.notation.specs.Stops.{GoesOn, StopsAt}
 use Rattle.notation.specs.StopsLaws.{came-on, Leads, leads-on, leads-one, stops-token, stops-end}
 use Rattle.lexer.specs.Meant.{meant, placed, ahead}
@@ -113,6 +114,8 @@ module _ {text stack : List ℕ} {w : Walk} (S : Stands text stack w) where
     stops-last z =
         let all : lexemes text ≡ S .passed = S .here ∙ rw (ahead-none text (w .token) z, append-nil) in
         record {
+          lexemes = lexemes text;
+          lexes = lexes-to text;
           number = length (S .passed);
           stops = rw (all, ← length-map (S .passed) (λ l. l .token)) (stops-end (bare (S .passed)) (S .alive) (rw all at (came-all c)));
           inside = S .walks .lexed .inside;
@@ -126,6 +129,8 @@ module _ {text stack : List ℕ} {w : Walk} (S : Stands text stack w) where
         let more : List Lexeme = pick (eqb (t .kind) 11) [] (lexemes (drop (t .next) text)) in
         let all : lexemes text ≡ S .passed ++ placed text t ∷ more = S .here ∙ ap (λ x. S .passed ++ x) (ahead-some text t l) in
         record {
+          lexemes = lexemes text;
+          lexes = lexes-to text;
           number = length (S .passed);
           stops =
               rw (all, bare-append (S .passed) (placed text t ∷ more), ← length-map (S .passed) (λ l. l .token))

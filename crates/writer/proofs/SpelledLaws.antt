@@ -64,7 +64,7 @@ is-leaf h r k {l} e x = let z : k ≡ l = cc in subst (λ l. Has l h r) z x
 
 has : {t : Token} {h r : List ℕ} {l : Leaf} → Spelled t h r → t ≡ leaf l → Has l h r
 has (a-head N S) e = no-way (cc)
-has {h = h} {r = r} (a-call {n = n} N g m) e = is-leaf h r (call n) e tt
+has {h = h} {r = r} (a-call {n = n} N f) e = is-leaf h r (call n) e tt
 has {h = h} {r = r} a-dot e = is-leaf h r any e tt
 has {h = h} {r = r} (a-text {mark = mark} {x = x} {s = s} m C) e = is-leaf h r (quoted x) e (mark, s, refl, quote-complete mark (real-mark mark m) C)
 has {h = h} {r = r} (a-class {p = p} {ps = ps} {s = s} n D) e = is-leaf h r (class p ps) e (91, s, refl, parts-complete D)

@@ -45,10 +45,6 @@ impl Lexer<'_> {
             b'<' => self.looking(at),
             _ => {
                 let (name, end) = self.name(at)?;
-                // What follows a name decides what it is, and a comment that is not closed has nothing behind it.
-                if self.rest(self.gap(end)).starts_with(b"/*") {
-                    return None;
-                }
                 match self.byte(self.gap(end), b'=') {
                     Some(_) => None,
                     None => Some((Expression::Call(name), end)),
