@@ -5,13 +5,13 @@
 .PHONY: run test bench
 
 run:
-	@scripts/build names
+	@scripts/build compile names
 	@scripts/story
 
 # The proof comes last, so that the last line says how it went.
 test:
 	rt fmt --check
-	scripts/build inspect recognise names
+	scripts/build compile inspect recognise names
 	scripts/test-programs
 	scripts/archive
 	scripts/harness test
