@@ -8,7 +8,7 @@ use lib.ListN.{length, drop, getD}
 use borrow.Author.Tests.{eq-eqb, ne-eqb, eqb-true, eqb-false}
 use Rattle.notation.specs.Tree.{Part}
 use Rattle.notation.specs.Lexer.{Piece, same}
-use Rattle.notation.specs.Naming.{ends}
+use Rattle.notation.specs.Symbols.{ends}
 use Rattle.notation.specs.At.{value}
 use Rattle.chars.specs.CharLaws.{Row}
 use Rattle.chars.specs.Meant.{Reads, There}

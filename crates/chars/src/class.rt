@@ -3,7 +3,7 @@ ghost use mathlib.Core.Path.{_≡_};
 ghost use Prim.Native.Nat.{_≤_, _<_};
 ghost use lib.ListN.{drop, length};
 ghost use Rattle.notation.specs.Lexer.{same};
-ghost use Rattle.notation.specs.Naming.{ends};
+ghost use Rattle.notation.specs.Symbols.{ends};
 ghost use Rattle.notation.specs.At.{partsOf};
 ghost use Rattle.chars.specs.Char.{ranges, upTo, charOf, partOf};
 ghost use Rattle.chars.specs.Meant.{ReadsPart, PartsEnd, ClassEnds, ClassAt};

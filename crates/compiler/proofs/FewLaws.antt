@@ -12,7 +12,7 @@ use Rattle.notation.specs.Compile.{count, sorted, entry, emit, emitAll, pattern
 use Rattle.notation.specs.CompileLaws.{productionNumber, tableNumber, conditionNumber}
 use Rattle.notation.specs.MeansLaws.{emit-length}
 use Rattle.notation.specs.FitLaws.{some-nodes}
-use Rattle.notation.specs.Places.{headOf, defOf, switchOf}
+use Rattle.notation.specs.Uses.{headOf, defOf, switchOf}
 use Rattle.index.specs.ListedLaws.{sorted-shorter}
 use Rattle.index.specs.PlaceLaws.{names-length}
 use Rattle.naming.specs.Gathered.{gathered}

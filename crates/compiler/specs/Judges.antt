@@ -8,7 +8,8 @@ use Rattle.notation.specs.Token.{Lexeme}
 use Rattle.notation.specs.Lexer.{lexemes}
 use Rattle.notation.specs.Text.{ReadsAs}
 use Rattle.notation.specs.Naming.{names, definitions}
-use Rattle.notation.specs.Places.{tokenPlace, namePlace, headOf, defOf, switchOf, firstWhere, firstName, undefined, again, ninth, long, firstOver, isHead, only, unlike}
+use Rattle.notation.specs.Uses.{headOf, defOf, switchOf}
+use Rattle.notation.specs.Places.{tokenPlace, namePlace, firstWhere, firstName, undefined, again, ninth, long, firstOver, isHead, only, unlike}
 use Rattle.notation.specs.Judged.{refused}
 use Rattle.notation.specs.Said.{Says}
 use Rattle.naming.specs.Found.{found}

@@ -5,46 +5,18 @@ use mathlib.Core.Bool.{Bool, true, false}
 use mathlib.Core.List.{List, [], _∷_}
 use native.Mathlib.Omega.{arith}
 use native.Mathlib.Numerals.{add-one}
-use lib.Dec.{eqb, leb}
+use lib.Dec.{leb}
 use lib.ListN.{length, getD, drop-of-length-le}
 use lib.Seq.{drop-cons}
-use borrow.Author.Tests.{ne-eqb, le-leb, lt-leb, leb-true, leb-false}
-use Rattle.format.specs.Reading.{pick}
+use borrow.Author.Tests.{leb-true, leb-false}
 use Rattle.notation.specs.Bytes.{nameByte}
 use Rattle.notation.specs.Tree.{Name}
 use Rattle.notation.specs.Lexer.{nameFront}
 use Rattle.notation.specs.LexicalText.{no-way}
 use Rattle.notation.specs.At.{nameAt}
 use Rattle.notation.specs.Compile.{lower, equal, higher, order}
+use Rattle.notation.specs.OrderLaws.{by-rest, by-lower, lower-turned}
 use Rattle.index.specs.Listed.{initial}
-use Rattle.index.specs.OrderLaws.{by-rest, by-lower, lower-turned}
-
--- ## Which bytes are a name's
-
-itself : (t : Bool) → pick (pick t true false) true false ≡ t
-itself true = refl
-itself false = refl
-
-module _ (b : ℕ) where
-  pub below-digits : b < 48 → nameByte b ≡ leb 48 b
-  below-digits h =
-      rw (lt-leb 65 b (omega arith), lt-leb 97 b (omega arith), ne-eqb b 95 (λ z. omega arith), lt-leb 48 b h)
-
-  pub from-digits : 48 ≤ b → b < 65 → nameByte b ≡ leb b 57
-  from-digits h k = rw (lt-leb 65 b k, lt-leb 97 b (omega arith), ne-eqb b 95 (λ z. omega arith), le-leb 48 b h)
-
-  pub capital : 65 ≤ b → b ≤ 90 → nameByte b ≡ true
-  capital h k = rw (le-leb 65 b h, le-leb b 90 k)
-
-  pub between-letters : 90 < b → b < 97 → nameByte b ≡ eqb b 95
-  between-letters h k =
-      rw (le-leb 65 b (omega arith), lt-leb b 90 h, lt-leb 97 b k, le-leb 48 b (omega arith), lt-leb b 57 (omega arith)) (itself (eqb b 95))
-
-  pub from-small : 97 ≤ b → nameByte b ≡ leb b 122
-  from-small h =
-      rw
-      (le-leb 65 b (omega arith), lt-leb b 90 (omega arith), le-leb 97 b h, ne-eqb b 95 (λ z. omega arith), le-leb 48 b (omega arith), lt-leb b 57 (omega arith))
-      (itself (leb b 122))
 
 -- ## The name at a place
 

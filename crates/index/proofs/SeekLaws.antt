@@ -7,8 +7,8 @@ use native.Mathlib.Numerals.{add-one}
 use lib.ListN.{length, take, drop, getD, drop-of-length-le}
 use Rattle.notation.specs.Tree.{Name}
 use Rattle.notation.specs.Compile.{lower, equal, higher, order}
+use Rattle.notation.specs.OrderLaws.{equal-iff-same}
 use Rattle.index.specs.Listed.{Below, Above, Ascending, Stands, Belongs}
-use Rattle.index.specs.OrderLaws.{equal-iff-same}
 use Rattle.index.specs.ListedLaws.{lower-from, higher-to}
 
 -- What is left to look at: the name is higher than each one before low, and lower than each one from high on.

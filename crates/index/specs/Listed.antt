@@ -10,6 +10,7 @@ use Rattle.notation.specs.Tree.{Name}
 use Rattle.notation.specs.At.{nameAt}
 use Rattle.notation.specs.Naming.{member}
 use Rattle.notation.specs.Compile.{Order, lower, equal, higher, order, insert, place}
+pub use Rattle.notation.specs.OrderLaws.{Below, Ascending}
 use Rattle.index.specs.declared.list.Sought.{Sought}
 use Rattle.index.specs.declared.list.Kept.{Kept}
 
@@ -26,19 +27,10 @@ initial (b ∷ n) = b
 unfoldable pub orderOf : ℕ → Order
 orderOf k = pick (eqb k 0) lower (pick (eqb k 1) equal higher)
 
--- A name is lower than each of these, or higher than each.
-abbrev pub Below : Name → List Name → Type 0
-Below n [] = Unit
-Below n (m ∷ ms) = (order n m ≡ lower) × Below n ms
-
+-- A name is higher than each of these.
 abbrev pub Above : Name → List Name → Type 0
 Above n [] = Unit
 Above n (m ∷ ms) = (order n m ≡ higher) × Above n ms
-
--- Each name is lower than every later one.
-abbrev pub Ascending : List Name → Type 0
-Ascending [] = Unit
-Ascending (n ∷ ns) = Below n ns × Ascending ns
 
 -- A name stands at i.
 pub record Stands (n : Name) (ns : List Name) (i : ℕ) : Type 0 where

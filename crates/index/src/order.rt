@@ -1,26 +1,10 @@
 // Two names of a text, in byte order.
+use lexer::name::is_name;
 ghost use mathlib.Core.Path.{_≡_};
 ghost use Prim.Native.Nat.{_≤_};
-ghost use Rattle.notation.specs.Bytes.{nameByte};
 ghost use Rattle.notation.specs.At.{nameAt};
 ghost use Rattle.notation.specs.Compile.{order};
 ghost use Rattle.index.specs.Listed.{initial, orderOf};
-
-// Whether a byte is a name's.
-fn is_named(b: u8) -> bool
-    ensures { λ r. ⌜ r ≡ nameByte b ⌝ }
-{
-    if b < b'A' {
-        return b'0' <= b && b <= b'9';
-    }
-    if b <= b'Z' {
-        return true;
-    }
-    if b < b'a' {
-        return b == b'_';
-    }
-    b <= b'z'
-}
 
 // The first byte of the name at a place, or 0 where no name's byte stands there.
 fn first_at(text: &[u8], i: usize) -> u8
@@ -30,7 +14,7 @@ fn first_at(text: &[u8], i: usize) -> u8
         return 0;
     }
     let b = text[i];
-    if is_named(b) {
+    if is_name(b) {
         return b;
     }
     0

@@ -15,7 +15,8 @@ use Rattle.notation.specs.Token as N
 use Rattle.notation.specs.Token.{leaf, opens}
 use Rattle.notation.specs.Lexer.{Piece, piece, no, _then_, Word, operator, past, skip, gap, name, sign, truth, truthHere, word, token}
 use Rattle.notation.specs.LexicalToken.{tokenOf}
-use Rattle.notation.specs.At.{nameAt, behindTruth, nameIn}
+use Rattle.notation.specs.At.{nameAt}
+use Rattle.notation.specs.Places.{behindTruth, nameIn}
 use Rattle.lexer.specs.Words.{Worded, is-match, is-is, is-isa, is-exists, is-if, is-def, is-block, is-local, is-on, is-unknown}
 use Rattle.lexer.specs.declared.token.Token.{Token}
 use Rattle.lexer.specs.Meant.{leafAt, openerAt, meant}

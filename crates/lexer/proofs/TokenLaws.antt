@@ -16,7 +16,8 @@ use Rattle.notation.specs.LexicalGap.{past-again, unclosed-again}
 use Rattle.notation.specs.Token as N
 use Rattle.notation.specs.Lexer.{Piece, piece, no, _then_, past, unclosed, gap, namedHere, fresh, quote, begin, parts, classed, classHere, token}
 use Rattle.notation.specs.LexicalToken.{tokenOf}
-use Rattle.notation.specs.At.{value, nameAt, quotedOf, partsOf, nameIn}
+use Rattle.notation.specs.At.{value, nameAt, quotedOf, partsOf}
+use Rattle.notation.specs.Places.{nameIn}
 use Rattle.chars.specs.Meant.{QuoteEnds, ClassEnds}
 use Rattle.chars.specs.declared.written.End.{End}
 use Rattle.chars.specs.declared.written.End.the-variants.{Behind, Open}

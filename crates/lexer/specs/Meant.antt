@@ -10,7 +10,8 @@ use Rattle.notation.specs.Tree.{Leaf, any, quoted, class, call, query, match, i
 use Rattle.notation.specs.Token.{head, leaf, opens, closes, left, right, slash, before, after, bad, Lexeme}
 use Rattle.notation.specs.Token as N
 use Rattle.notation.specs.Lexer.{lexemes}
-use Rattle.notation.specs.At.{nameAt, quotedOf, partsOf, classOf, nameIn}
+use Rattle.notation.specs.At.{nameAt, quotedOf, partsOf, classOf}
+use Rattle.notation.specs.Places.{nameIn}
 use Rattle.lexer.specs.declared.token.Token.{Token}
 
 -- What holds no expression, what opens an operator, and a suffix, by the number of the symbol.

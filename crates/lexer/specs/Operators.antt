@@ -9,7 +9,7 @@ use lib.ListN.{drop, length, getD}
 use Rattle.format.specs.Reading.{pick}
 use Rattle.notation.specs.Lexer.{Piece, piece, no, Word, operator, truth, sign}
 use Rattle.notation.specs.LexicalToken.{tokenOf}
-use Rattle.notation.specs.At.{behindTruth, nameIn}
+use Rattle.notation.specs.Places.{behindTruth, nameIn}
 use Rattle.chars.specs.Meant.{Ends}
 use Rattle.chars.specs.declared.written.End.{End}
 use Rattle.lexer.specs.declared.operator.Truth.{Truth}

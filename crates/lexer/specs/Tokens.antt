@@ -12,7 +12,8 @@ use Rattle.notation.specs.Bytes.{letter}
 use Rattle.notation.specs.Token as N
 use Rattle.notation.specs.Lexer.{Piece, piece, no, gap}
 use Rattle.notation.specs.LexicalToken.{tokenOf}
-use Rattle.notation.specs.At.{partsOf, nameIn}
+use Rattle.notation.specs.At.{partsOf}
+use Rattle.notation.specs.Places.{nameIn}
 use Rattle.chars.specs.declared.written.End.{End}
 use Rattle.chars.specs.declared.written.End.the-variants.{Behind, Open}
 use Rattle.lexer.specs.declared.token.Token.{Token}

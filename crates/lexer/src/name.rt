@@ -31,7 +31,8 @@ pub(crate) fn is_letter(b: u8) -> bool
     b == b'_'
 }
 
-fn is_name(b: u8) -> bool
+// Whether a byte is a name's.
+pub fn is_name(b: u8) -> bool
     ensures { λ r. ⌜ r ≡ nameByte b ⌝ }
 {
     if is_letter(b) {

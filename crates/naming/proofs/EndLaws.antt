@@ -14,9 +14,9 @@ use Rattle.notation.specs.LexicalText.{no-way}
 use Rattle.notation.specs.Compile.{count}
 use Rattle.notation.specs.Counts.{weightOf, weightIn}
 use Rattle.notation.specs.CountLaws.{weighs}
-use Rattle.notation.specs.Uses.{perToken, headsIn}
+use Rattle.notation.specs.Uses.{perToken, headsIn, headOf}
 use Rattle.notation.specs.UsesLaws.{no-heads}
-use Rattle.notation.specs.Places.{headOf, isHead, only}
+use Rattle.notation.specs.Places.{isHead, only}
 
 -- A production that has ended: what is kept of its head, and the nodes up to its end.
 pub record Ended (A : Type 0) : Type 0 where

@@ -13,7 +13,7 @@ use Rattle.notation.specs.Notation.{Productions, last, more}
 use Rattle.notation.specs.At.{nameAt}
 use Rattle.notation.specs.Lexer.{lexemes}
 use Rattle.notation.specs.LexicalText.{no-way}
-use Rattle.notation.specs.AlikeLaws.{same-refl}
+use Rattle.notation.specs.SymbolsLaws.{same-refl}
 use Rattle.notation.specs.Naming.{names, member}
 use Rattle.notation.specs.Compile.{entry, roots, first}
 use Rattle.notation.specs.CompileLaws.{member-here}

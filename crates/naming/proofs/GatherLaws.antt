@@ -15,7 +15,7 @@ use Rattle.notation.specs.Lexer.{lexemes}
 use Rattle.notation.specs.Compile.{insert}
 use Rattle.notation.specs.Places.{firstName, again, ninth, namePlace}
 use Rattle.index.specs.Listed.{namesAt, Ascending, Keeps}
-use Rattle.index.specs.ListedLaws.{insert-ascending}
+use Rattle.notation.specs.OrderLaws.{insert-ascending}
 use Rattle.index.specs.PlaceLaws.{names-length}
 use Rattle.index.specs.declared.list.Kept.{Kept}
 use Rattle.naming.specs.Found.{found, hereIf, orElse}

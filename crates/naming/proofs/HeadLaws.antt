@@ -11,9 +11,9 @@ use Rattle.notation.specs.Token.{Token, head, leaf, opens, closes, left, right,
 use Rattle.notation.specs.Notation.{Productions}
 use Rattle.notation.specs.At.{nameAt}
 use Rattle.notation.specs.Naming.{names}
-use Rattle.notation.specs.Uses.{perToken, headsIn}
+use Rattle.notation.specs.Uses.{perToken, headsIn, headOf}
 use Rattle.notation.specs.UsesLaws.{heads-are}
-use Rattle.notation.specs.Places.{headOf, isHead, only}
+use Rattle.notation.specs.Places.{isHead, only}
 use Rattle.lexer.specs.Meant.{meant, placed}
 use Rattle.lexer.specs.declared.token.Token as lexer
 use Rattle.naming.proofs.PickLaws.{pick-with}

@@ -10,7 +10,7 @@ use Rattle.notation.specs.Tree.{Name}
 use Rattle.notation.specs.Lexer.{same}
 use Rattle.notation.specs.LexicalText.{no-way}
 use Rattle.notation.specs.LexicalToken.{same-true}
-use Rattle.notation.specs.AlikeLaws.{same-refl}
+use Rattle.notation.specs.SymbolsLaws.{same-refl}
 use Rattle.notation.specs.Naming.{member, distinct}
 use Rattle.notation.specs.Compile.{place, Entry, entry}
 use Rattle.index.specs.Listed.{Stands}

@@ -20,9 +20,8 @@ use Rattle.notation.specs.FitLaws.{some-nodes}
 use Rattle.notation.specs.Places.{isHead, only}
 use Rattle.lexer.specs.Meant.{Lexed}
 use Rattle.lexer.specs.declared.token.Token as lexer
-use Rattle.notation.specs.OrderLaws.{sorted-member}
+use Rattle.notation.specs.OrderLaws.{sorted-ascending, sorted-member}
 use Rattle.index.specs.Listed.{namesAt, Ascending}
-use Rattle.index.specs.ListedLaws.{sorted-ascending}
 use Rattle.index.specs.PlaceLaws.{names-length}
 use Rattle.naming.specs.Sized.{nodesOf}
 use Rattle.naming.specs.SizedLaws.{size-is}

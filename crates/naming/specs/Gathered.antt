@@ -10,7 +10,8 @@ use Rattle.notation.specs.Token.{Token, Lexeme}
 use Rattle.notation.specs.Lexer.{lexemes}
 use Rattle.notation.specs.At.{nameAt}
 use Rattle.notation.specs.Compile.{insert}
-use Rattle.notation.specs.Places.{headOf, defOf, switchOf, firstName, again, ninth, namePlace}
+use Rattle.notation.specs.Uses.{headOf, defOf, switchOf}
+use Rattle.notation.specs.Places.{firstName, again, ninth, namePlace}
 use Rattle.index.specs.Listed.{namesAt}
 use Rattle.naming.specs.Found.{found, hereIf, orElse}
 use Rattle.naming.specs.declared.gather.Gathered.{Gathered}

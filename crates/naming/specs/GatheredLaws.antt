@@ -13,13 +13,13 @@ use Rattle.notation.specs.Text.{ReadsAs}
 use Rattle.notation.specs.TextLaws.{lexes-once}
 use Rattle.notation.specs.Lexer.{lexemes, tokens}
 use Rattle.notation.specs.Naming.{names, tables, conditions, definitions, allDefined}
-use Rattle.notation.specs.Uses.{perToken}
+use Rattle.notation.specs.Uses.{perToken, headOf, defOf, switchOf}
 use Rattle.notation.specs.UsesLaws.{heads-are, defs-are, tables-sorted, conditions-sorted}
 use Rattle.notation.specs.Compile.{Order, lower, equal, higher, order, insert, sorted}
-use Rattle.notation.specs.Places.{headOf, defOf, switchOf}
 use Rattle.index.specs.Listed.{Ascending}
-use Rattle.index.specs.ListedLaws.{sorted-snoc, sorted-ascending, sorted-shorter}
-use Rattle.naming.specs.ShorterLaws.{defines, names-bound}
+use Rattle.notation.specs.OrderLaws.{sorted-ascending, sorted-added}
+use Rattle.index.specs.ListedLaws.{sorted-shorter}
+use Rattle.naming.specs.BoundLaws.{defines, names-bound}
 use Rattle.naming.specs.Gathered.{sortOf, inserted, gathered}
 
 -- ## No name is lost
@@ -51,7 +51,7 @@ inserted-sorted : (ns before : List Name) → inserted ns (sorted before) ≡ so
 unfolding inserted
 inserted-sorted [] before = ap sorted (sym (append-nil before))
 inserted-sorted (n ∷ ns) before =
-    ap (inserted ns) (sym (sorted-snoc before n)) ∙ inserted-sorted ns (before ++ n ∷ []) ∙ ap sorted (append-assoc before (n ∷ []) ns)
+    ap (inserted ns) (sym (sorted-added n before)) ∙ inserted-sorted ns (before ++ n ∷ []) ∙ ap sorted (append-assoc before (n ∷ []) ns)
 
 gathered-from : (f : Token → List Name) (before : List Name) (ls : List Lexeme) → gathered f (sorted before) ls ≡ sorted (before ++ perToken f (bare ls))
 unfolding gathered perToken

@@ -2,7 +2,7 @@
 pub mod Found
 pub mod Told
 pub mod Gathered
-pub mod ShorterLaws
+pub mod BoundLaws
 pub mod GatheredLaws
 pub mod UndefinedLaws
 pub mod Sized

@@ -9,9 +9,9 @@ use Rattle.format.specs.Reading.{pick}
 use Rattle.notation.specs.Tree.{Name, quoted}
 use Rattle.notation.specs.Token.{leaf}
 use Rattle.notation.specs.Token as N
-use Rattle.notation.specs.At.{nameAt, quotedOf}
+use Rattle.notation.specs.At.{nameAt, quotedOf, partsOf}
 use Rattle.notation.specs.Lexical.{Spelled}
-use Rattle.notation.specs.Places.{headOf, callOf, defOf, askOf, switchOf, quotedIn}
+use Rattle.notation.specs.Uses.{headOf, callOf, defOf, askOf, switchOf, quotedIn}
 use Rattle.lexer.specs.Meant.{meant}
 use Rattle.lexer.specs.declared.token.Token.{Token}
 
@@ -52,3 +52,7 @@ pub record SpeltAs (s : List ℕ) (t : N.Token) : Type 0 where
 
 abbrev pub Spelt : (text : List ℕ) (start : ℕ) → N.Token → Type 0
 Spelt text start = SpeltAs (drop start text)
+
+-- A token that is a class has parts.
+abbrev pub Parted : List ℕ → Token → Type 0
+Parted text t = t .kind ≡ 5 → t .symbol ≡ 3 → partsOf (drop (t .start) text) ≡ [] → ⊥

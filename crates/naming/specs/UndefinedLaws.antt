@@ -12,7 +12,8 @@ use Rattle.notation.specs.Lexer.{lexemes}
 use Rattle.notation.specs.Naming.{all, member, names, definitions}
 use Rattle.notation.specs.MemberLaws.{SameMembers}
 use Rattle.notation.specs.OrderLaws.{sorted-member}
-use Rattle.notation.specs.Places.{headOf, callOf, defOf, askOf, firstWhere, undefined}
+use Rattle.notation.specs.Uses.{headOf, callOf, defOf, askOf}
+use Rattle.notation.specs.Places.{firstWhere, undefined}
 use Rattle.naming.specs.Gathered.{gathered}
 use Rattle.naming.specs.GatheredLaws.{heads-gathered, defs-gathered}
 

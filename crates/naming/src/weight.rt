@@ -5,23 +5,22 @@ ghost use mathlib.Core.Path.{_≡_};
 ghost use Prim.Native.Nat.{_+_, _-_, _≤_};
 ghost use Rattle.notation.specs.Counts.{weightOf};
 ghost use Rattle.lexer.specs.Meant.{meant};
-ghost use Rattle.naming.specs.Told.{Spelt};
+ghost use Rattle.naming.specs.Told.{Spelt, Parted};
 
 // The weight of what holds no expression: a class weighs twice as much as it has parts, and anything else 2.
 fn leaf_weight(text: &[u8], t: Token) -> usize
-    requires { ⌜ (t .kind ≡ 5) × Spelt (now text) (t .start) (meant (now text) t) ⌝ }
+    requires { ⌜ (t .kind ≡ 5) × Spelt (now text) (t .start) (meant (now text) t) × Parted (now text) t ⌝ }
     ensures { λ r. ⌜ r ≡ weightOf (meant (now (text .entry)) t) ⌝ }
 {
-    let start = t.start;
-    if text[start] != b'[' {
+    if t.symbol != 3 {
         return 2;
     }
-    class_size(text, start) * 2
+    class_size(text, t.start) * 2
 }
 
 // The weight of a token.
 pub(crate) fn weight_of(text: &[u8], t: Token) -> usize
-    requires { ⌜ Spelt (now text) (t .start) (meant (now text) t) ⌝ }
+    requires { ⌜ Spelt (now text) (t .start) (meant (now text) t) × Parted (now text) t ⌝ }
     ensures { λ r. ⌜ r ≡ weightOf (meant (now (text .entry)) t) ⌝ }
 {
     let kind = t.kind;

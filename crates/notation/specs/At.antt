@@ -1,13 +1,9 @@
 -- What stands at a place of a text, as the code's places name it: a place is a number of bytes from the text's front.
 use Prim.Native.Nat.{ℕ}
-use Prim.Native.Char.{code}
-use mathlib.Core.Bool.{Bool}
 use mathlib.Core.List.{List, [], _∷_}
-use lib.Dec.{eqb}
 use lib.ListN.{drop}
-use Rattle.format.specs.Reading.{pick}
 use Rattle.notation.specs.Tree.{Name, Part, Leaf, any, class}
-use Rattle.notation.specs.Lexer.{Piece, piece, no, _then_, past, unclosed, Skipped, gap, nameFront, name, truth, fresh, quote, begin, parts}
+use Rattle.notation.specs.Lexer.{Piece, piece, no, nameFront, fresh, quote, begin, parts}
 
 -- The value of a piece; where there is none, the empty list.
 abbrev pub value : {A : Type 0} → Piece (List A) → List A
@@ -31,12 +27,3 @@ partsOf (b ∷ s) = value (parts begin fresh s)
 unfoldable pub classOf : List Part → Leaf
 classOf [] = any
 classOf (p ∷ ps) = class p ps
-
--- The bytes from a token's name on, the token being the front: behind `<`, a word and perhaps a `!`; else the name is the front itself.
-unfoldable pub behindTruth : Piece Bool → List ℕ
-behindTruth no = []
-behindTruth (piece w s) = elim (gap s) [ past r ↦ r | unclosed c ↦ [] ]
-
-unfoldable pub nameIn : List ℕ → List ℕ
-nameIn [] = []
-nameIn (b ∷ s) = pick (eqb b (code "<")) (behindTruth (name s then λ w r. truth r)) (b ∷ s)

@@ -12,11 +12,11 @@ use Rattle.notation.specs.Bytes.{bytes}
 use Rattle.notation.specs.Stream.{post, symbols, _▸▸_, close, whole, inBracket, inAngle, stream}
 use Rattle.notation.specs.Lexer.{skip, front, second, blockOn, starOn, nameFront, nameBehind, nameHere, signHere, truthHere, quote, atMark, feed, high, low, simple, turn, begun, ranged, _++ᵖ_, _∷ᵖ_, _then_, parts, same, word, operator, namedHere, classed, classHere, token, lexed, lexemes, tokens}
 use Rattle.notation.specs.Reader.{grow, trees, came, reads, unread, parsed}
-use Rattle.notation.specs.Naming.{sameSymbols, member, all, distinct, agree}
+use Rattle.notation.specs.Symbols.{sameSymbols}
+use Rattle.notation.specs.Naming.{member, all, distinct, agree}
 use Rattle.notation.specs.Compile.{order, insert, sorted, place, entry, count, choices, emit, emitAll, roots, patternsIn, patternsAll, first, compile}
-use Rattle.notation.specs.At.{behindTruth, nameIn}
 use Rattle.notation.specs.Uses.{perToken}
-use Rattle.notation.specs.Places.{tokenPlace, firstWhere, firstName, firstOver, imageUpTo, only, numbered}
+use Rattle.notation.specs.Places.{behindTruth, nameIn, tokenPlace, firstWhere, firstName, firstOver, imageUpTo, only, numbered}
 use Rattle.notation.specs.OnePattern.{failing}
 use Rattle.notation.specs.Judged.{Answer, good, refused, judged}
 

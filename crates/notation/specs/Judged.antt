@@ -12,7 +12,8 @@ use Rattle.notation.specs.Tree.{Production}
 use Rattle.notation.specs.Token.{Lexeme}
 use Rattle.notation.specs.Naming.{names, definitions}
 use Rattle.notation.specs.Compile.{compile}
-use Rattle.notation.specs.Places.{tokenPlace, namePlace, headOf, defOf, switchOf, firstWhere, firstName, undefined, again, ninth, long, firstOver, imageUpTo, isHead, only, unlike}
+use Rattle.notation.specs.Uses.{headOf, defOf, switchOf}
+use Rattle.notation.specs.Places.{tokenPlace, namePlace, firstWhere, firstName, undefined, again, ninth, long, firstOver, imageUpTo, isHead, only, unlike}
 
 pub data Answer : Type 0 where
   good : Grammar → Answer

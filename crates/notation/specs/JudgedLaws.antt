@@ -19,7 +19,8 @@ use Rattle.notation.specs.LexicalText.{no-way}
 use Rattle.notation.specs.Naming.{names, definitions, allDefined, onceNamed, onePattern}
 use Rattle.notation.specs.Limits.{fits}
 use Rattle.notation.specs.Compile.{compile}
-use Rattle.notation.specs.Places.{tokenPlace, namePlace, headOf, defOf, switchOf, firstWhere, firstName, undefined, again, ninth, long, firstOver, imageUpTo, isHead, only, unlike}
+use Rattle.notation.specs.Uses.{headOf, defOf, switchOf}
+use Rattle.notation.specs.Places.{tokenPlace, namePlace, firstWhere, firstName, undefined, again, ninth, long, firstOver, imageUpTo, isHead, only, unlike}
 use Rattle.notation.specs.PlacesLaws.{isNone, defined-place, once-place, pattern-place, tables-place, conditions-place, texts-place, nodes-place, image-place}
 use Rattle.notation.specs.SoundLaws.{within-limits}
 use Rattle.notation.specs.Judged.{Answer, good, refused, orElse, atName, atToken, judged}

@@ -10,6 +10,8 @@ pub mod ReaderLaws
 pub mod Bytes
 pub mod Lexer
 pub mod At
+pub mod Symbols
+pub mod SymbolsLaws
 pub mod Naming
 pub mod Compile
 pub mod Limits
@@ -30,8 +32,6 @@ pub mod OrderLaws
 pub mod UsesLaws
 pub mod Counts
 pub mod CountLaws
-pub mod Bodies
-pub mod BodiesLaws
 pub mod OnePattern
 pub mod OnePatternLaws
 pub mod Patterns

@@ -11,7 +11,7 @@ use Rattle.notation.specs.Lexer.{same}
 use Rattle.notation.specs.LexicalText.{no-way}
 use Rattle.notation.specs.LexicalToken.{same-true}
 use Rattle.notation.specs.Naming.{member, all}
-use Rattle.notation.specs.AlikeLaws.{same-refl}
+use Rattle.notation.specs.SymbolsLaws.{same-refl}
 use Rattle.notation.specs.CompileLaws.{member-here, member-later}
 
 abbrev pub either : Bool → Bool → Bool

@@ -18,8 +18,8 @@ use Rattle.notation.specs.LexicalGap.{gap-skips}
 use Rattle.notation.specs.LexicalText.{no-way}
 use Rattle.notation.specs.LexicalToken.{name-complete, truth-complete}
 use Rattle.notation.specs.Lexer.{piece, _then_, truth}
-use Rattle.notation.specs.At.{behindTruth, nameIn}
-use Rattle.notation.specs.Places.{namePlace, headOf, callOf, defOf, askOf, switchOf}
+use Rattle.notation.specs.Uses.{headOf, callOf, defOf, askOf, switchOf}
+use Rattle.notation.specs.Places.{behindTruth, nameIn, namePlace}
 use Rattle.notation.specs.EndsLaws.{Ends, whole, inner, ends-on, ends-placed, gap-ends, token-ends, then-named, then-truth}
 
 -- ## Where a name stands no gap does, and no `!`

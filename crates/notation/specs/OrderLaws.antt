@@ -1,230 +1,274 @@
--- Names in byte order: the order is total, and `sorted` goes by the members alone.
+-- Byte order is a strict total order on names: two are equal in it exactly if they are the same, it turns round with its names, and it is transitive.
+-- `insert` and `sorted` keep it, and what is sorted goes by the members alone.
 use Prim.Native.Nat.{ℕ, _≤_, _<_}
-use mathlib.Core.Path.{_≡_, refl, ap, sym, _∙_, subst}
+use mathlib.Core.Path.{_≡_, refl, ap, sym, _∙_}
 use mathlib.Core.Bool.{Bool, true, false}
+use mathlib.Core.Logic.{_↔_}
 use mathlib.Core.List.{List, [], _∷_, _++_}
 use native.Mathlib.Omega.{arith}
 use lib.Dec.{eqb, ltb}
-use borrow.Author.Tests.{eq-eqb, eqb-true, eqb-false, ne-eqb, ltb-true, ltb-false, lt-ltb, le-ltb}
+use borrow.Author.Tests.{eq-eqb, ne-eqb, eqb-true, eqb-false, lt-ltb, le-ltb, ltb-true, ltb-false}
 use Rattle.notation.specs.Tree.{Name}
 use Rattle.notation.specs.Lexer.{same}
 use Rattle.notation.specs.LexicalText.{no-way}
 use Rattle.notation.specs.LexicalToken.{same-true}
+use Rattle.notation.specs.SymbolsLaws.{same-refl}
 use Rattle.notation.specs.Naming.{member, distinct}
 use Rattle.notation.specs.Compile.{Order, lower, equal, higher, order, insert, sorted}
 use Rattle.notation.specs.CompileLaws.{member-here}
-use Rattle.notation.specs.MeansLaws.{Or, this, that}
 use Rattle.notation.specs.MemberLaws.{either, member-append, SameMembers}
 
--- ## The order is total
+-- ## The first byte decides, or the rest does
 
-data Compared (x y : ℕ) : Type 0 where
-  equals : x ≡ y → Compared x y
-  less : x < y → Compared x y
-  more : y < x → Compared x y
+module _ (x : ℕ) (xs : Name) (y : ℕ) (ys : Name) where
+  pub by-rest : x ≡ y → order (x ∷ xs) (y ∷ ys) ≡ order xs ys
+  unfolding order
+  by-rest e = rw (eq-eqb x y e)
 
-compare : (x y : ℕ) → Compared x y
-compare x y = go (eqb x y) (ltb x y) refl refl
+  pub by-lower : x < y → order (x ∷ xs) (y ∷ ys) ≡ lower
+  unfolding order
+  by-lower h = rw (ne-eqb x y (λ z. omega arith), lt-ltb x y h)
+
+  pub by-higher : y < x → order (x ∷ xs) (y ∷ ys) ≡ higher
+  unfolding order
+  by-higher h = rw (ne-eqb x y (λ z. omega arith), le-ltb x y (omega arith))
+
+  -- Which of the three it is.
+  pub data Decided : Type 0 where
+    first-lower : x < y → Decided
+    first-same : x ≡ y → Decided
+    first-higher : y < x → Decided
+
+  pub decided : Decided
+  decided = go (eqb x y) (ltb x y) refl refl
+    where
+      go : (b c : Bool) → eqb x y ≡ b → ltb x y ≡ c → Decided
+      go true c q r = first-same (eqb-true x y q)
+      go false true q r = first-lower (ltb-true x y r)
+      go false false q r = first-higher (let d = eqb-false x y q in let h = ltb-false x y r in omega arith)
+
+-- ## Equal exactly if the same
+
+pub order-same : (n : Name) → order n n ≡ equal
+unfolding order
+order-same [] = refl
+order-same (x ∷ xs) = by-rest x xs x xs refl ∙ order-same xs
+
+equal-same : (n m : Name) → order n m ≡ equal → n ≡ m
+unfolding order
+equal-same [] [] e = refl
+equal-same [] (y ∷ ys) e = no-way (cc)
+equal-same (x ∷ xs) [] e = no-way (cc)
+equal-same (x ∷ xs) (y ∷ ys) e = go (decided x xs y ys) (λ h. equal-same xs ys h)
   where
-    go : (a b : Bool) → eqb x y ≡ a → ltb x y ≡ b → Compared x y
-    go true b p q = equals (eqb-true x y p)
-    go false true p q = less (ltb-true x y q)
-    go false false p q = more (apart (ltb-false x y q) (eqb-false x y p))
-      where
-        apart : y ≤ x → (x ≡ y → ⊥) → y < x
-        apart h k = omega arith
+    go : Decided x xs y ys → (order xs ys ≡ equal → xs ≡ ys) → x ∷ xs ≡ y ∷ ys
+    go (first-lower h) f = let z = by-lower x xs y ys h in no-way (cc)
+    go (first-same q) f = let w = f (sym (by-rest x xs y ys q) ∙ e) in cc
+    go (first-higher h) f = let z = by-higher x xs y ys h in no-way (cc)
 
-module _ (x y : ℕ) (xs ys : Name) where
-  order-equals : x ≡ y → order (x ∷ xs) (y ∷ ys) ≡ order xs ys
-  unfolding order
-  order-equals h = rw (eq-eqb x y h)
+pub equal-iff-same : (n m : Name) → (order n m ≡ equal) ↔ (n ≡ m)
+equal-iff-same n m = (equal-same n m, λ e. rw e (order-same m))
 
-  order-less : x < y → order (x ∷ xs) (y ∷ ys) ≡ lower
-  unfolding order
-  order-less h = rw (ne-eqb x y (λ e. omega arith), lt-ltb x y h)
-
-  order-more : y < x → order (x ∷ xs) (y ∷ ys) ≡ higher
-  unfolding order
-  order-more h = rw (ne-eqb x y (λ e. omega arith), le-ltb x y (omega arith))
+-- ## Turned round
 
 abbrev pub turned : Order → Order
 turned lower = higher
 turned equal = equal
 turned higher = lower
 
--- Seen from the other name it is turned round.
 pub order-turned : (n m : Name) → order m n ≡ turned (order n m)
 unfolding order
 order-turned [] [] = refl
 order-turned [] (y ∷ ys) = refl
 order-turned (x ∷ xs) [] = refl
-order-turned (x ∷ xs) (y ∷ ys) = go (compare x y) (order-turned xs ys)
+order-turned (x ∷ xs) (y ∷ ys) = go (decided x xs y ys) (order-turned xs ys)
   where
-    go : Compared x y → order ys xs ≡ turned (order xs ys) → order (y ∷ ys) (x ∷ xs) ≡ turned (order (x ∷ xs) (y ∷ ys))
-    go (equals h) i = order-equals y x ys xs (sym h) ∙ i ∙ ap turned (sym (order-equals x y xs ys h))
-    go (less h) i = order-more y x ys xs h ∙ ap turned (sym (order-less x y xs ys h))
-    go (more h) i = order-less y x ys xs h ∙ ap turned (sym (order-more x y xs ys h))
+    go : Decided x xs y ys → order ys xs ≡ turned (order xs ys) → order (y ∷ ys) (x ∷ xs) ≡ turned (order (x ∷ xs) (y ∷ ys))
+    go (first-lower h) i = by-higher y ys x xs h ∙ sym (ap turned (by-lower x xs y ys h))
+    go (first-same q) i = by-rest y ys x xs (sym q) ∙ i ∙ sym (ap turned (by-rest x xs y ys q))
+    go (first-higher h) i = by-lower y ys x xs h ∙ sym (ap turned (by-higher x xs y ys h))
 
-pub order-refl : (n : Name) → order n n ≡ equal
+module _ (n m : Name) where
+  pub lower-turned : order n m ≡ lower → order m n ≡ higher
+  lower-turned e = order-turned n m ∙ ap turned e
+
+  pub higher-turned : order n m ≡ higher → order m n ≡ lower
+  higher-turned e = order-turned n m ∙ ap turned e
+
+-- ## Transitive
+
+pub lower-lower : (n m k : Name) → order n m ≡ lower → order m k ≡ lower → order n k ≡ lower
 unfolding order
-order-refl [] = refl
-order-refl (x ∷ xs) = order-equals x x xs xs refl ∙ order-refl xs
-
-pub order-equal : (n m : Name) → order n m ≡ equal → n ≡ m
-unfolding order
-order-equal [] [] e = refl
-order-equal [] (y ∷ ys) e = no-way (cc)
-order-equal (x ∷ xs) [] e = no-way (cc)
-order-equal (x ∷ xs) (y ∷ ys) e = go (compare x y) (λ h. order-equal xs ys h)
+lower-lower n [] [] e f = no-way (cc)
+lower-lower [] [] (z ∷ zs) e f = no-way (cc)
+lower-lower (x ∷ xs) [] (z ∷ zs) e f = no-way (cc)
+lower-lower n (y ∷ ys) [] e f = no-way (cc)
+lower-lower [] (y ∷ ys) (z ∷ zs) e f = refl
+lower-lower (x ∷ xs) (y ∷ ys) (z ∷ zs) e f = go (decided x xs y ys) (decided y ys z zs) (λ g h. lower-lower xs ys zs g h)
   where
-    go : Compared x y → (order xs ys ≡ equal → xs ≡ ys) → x ∷ xs ≡ y ∷ ys
-    go (equals h) i = let z = i (sym (order-equals x y xs ys h) ∙ e) in cc
-    go (less h) i = let z = order-less x y xs ys h in no-way (cc)
-    go (more h) i = let z = order-more x y xs ys h in no-way (cc)
+    go : Decided x xs y ys → Decided y ys z zs → (order xs ys ≡ lower → order ys zs ≡ lower → order xs zs ≡ lower)
+        → order (x ∷ xs) (z ∷ zs) ≡ lower
+    go (first-higher h) d i = let w = by-higher x xs y ys h in no-way (cc)
+    go (first-lower h) (first-higher k) i = let w = by-higher y ys z zs k in no-way (cc)
+    go (first-same h) (first-higher k) i = let w = by-higher y ys z zs k in no-way (cc)
+    go (first-lower h) (first-lower k) i = by-lower x xs z zs (omega arith)
+    go (first-lower h) (first-same k) i = by-lower x xs z zs (omega arith)
+    go (first-same h) (first-lower k) i = by-lower x xs z zs (omega arith)
+    go (first-same h) (first-same k) i =
+        by-rest x xs z zs (h ∙ k) ∙ i (sym (by-rest x xs y ys h) ∙ e) (sym (by-rest y ys z zs k) ∙ f)
 
-pub order-lower : (n m l : Name) → order n m ≡ lower → order m l ≡ lower → order n l ≡ lower
-unfolding order
-order-lower [] [] l d e = no-way (cc)
-order-lower [] (y ∷ ys) [] d e = no-way (cc)
-order-lower [] (y ∷ ys) (z ∷ zs) d e = refl
-order-lower (x ∷ xs) [] l d e = no-way (cc)
-order-lower (x ∷ xs) (y ∷ ys) [] d e = no-way (cc)
-order-lower (x ∷ xs) (y ∷ ys) (z ∷ zs) d e = go (compare x y) (compare y z) (λ f g. order-lower xs ys zs f g)
-  where
-    go : Compared x y → Compared y z → (order xs ys ≡ lower → order ys zs ≡ lower → order xs zs ≡ lower) → order (x ∷ xs) (z ∷ zs) ≡ lower
-    go (equals h) (equals k) i =
-        order-equals x z xs zs (h ∙ k) ∙ i (sym (order-equals x y xs ys h) ∙ d) (sym (order-equals y z ys zs k) ∙ e)
-    go (equals h) (less k) i = order-less x z xs zs (omega arith)
-    go (less h) (equals k) i = order-less x z xs zs (omega arith)
-    go (less h) (less k) i = order-less x z xs zs (omega arith)
-    go (more h) k i = let w = order-more x y xs ys h in no-way (cc)
-    go (equals h) (more k) i = let w = order-more y z ys zs k in no-way (cc)
-    go (less h) (more k) i = let w = order-more y z ys zs k in no-way (cc)
+-- ## Against `same`
 
--- ## What is sorted has the same members, and goes up
+module _ (n m : Name) where
+  pub same-equal : order n m ≡ equal → same n m ≡ true
+  same-equal e = rw (equal-same n m e) (same-refl m)
 
-swapped : (a b c : Bool) → either a (either b c) ≡ either b (either a c)
-swapped true true c = refl
-swapped true false c = refl
-swapped false b c = refl
+  not-same : (order n m ≡ equal → ⊥) → same n m ≡ false
+  not-same d = go (same n m) refl
+    where
+      go : (b : Bool) → same n m ≡ b → b ≡ false
+      go true q = absurd (d (equal-iff-same n m .1 (same-true n m q)))
+      go false q = refl
 
-pub member-insert : (t n : Name) (ms : List Name) → member t (insert n ms) ≡ either (same t n) (member t ms)
-unfolding insert member
-member-insert t n [] = refl
-member-insert t n (m ∷ ms) = go (order n m) refl (member-insert t n ms)
-  where
-    twice : (a b : Bool) → either a b ≡ either a (either a b)
-    twice true b = refl
-    twice false b = refl
+  pub not-same-lower : order n m ≡ lower → same n m ≡ false
+  not-same-lower e = not-same (λ f. no-way (cc))
 
-    go : (o : Order) → order n m ≡ o → member t (insert n ms) ≡ either (same t n) (member t ms)
-        → member t (insert n (m ∷ ms)) ≡ either (same t n) (member t (m ∷ ms))
-    go lower q i = rw (q, insert)
-    go equal q i = rw (q, insert) (rw (order-equal n m q) (twice (same t m) (member t ms)))
-    go higher q i = rw (q, insert) (ap (λ b. either (same t m) b) i ∙ swapped (same t m) (same t n) (member t ms))
+  pub not-same-higher : order n m ≡ higher → same n m ≡ false
+  not-same-higher e = not-same (λ f. no-way (cc))
 
-pub sorted-member : (t : Name) (ns : List Name) → member t (sorted ns) ≡ member t ns
-unfolding sorted member
-sorted-member t [] = refl
-sorted-member t (n ∷ ns) = member-insert t n (sorted ns) ∙ ap (λ b. either (same t n) b) (sorted-member t ns)
+-- ## Names in order
 
--- Every name of the list comes later.
-abbrev pub Above : Name → List Name → Type 0
-Above n ms = (m : Name) → member m ms ≡ true → order n m ≡ lower
+-- A name is lower than each of these.
+abbrev pub Below : Name → List Name → Type 0
+Below n [] = Unit
+Below n (m ∷ ms) = (order n m ≡ lower) × Below n ms
 
+-- Each name is lower than every later one.
 abbrev pub Ascending : List Name → Type 0
 Ascending [] = Unit
-Ascending (n ∷ ns) = Above n ns × Ascending ns
+Ascending (n ∷ ns) = Below n ns × Ascending ns
 
-member-or : (t n : Name) (ns : List Name) → member t (n ∷ ns) ≡ true → Or (t ≡ n) (member t ns ≡ true)
+pub below-lower : (n m : Name) (ms : List Name) → order n m ≡ lower → Below m ms → Below n ms
+below-lower n m [] e b = tt
+below-lower n m (k ∷ ks) e b = (lower-lower n m k e (b .0), below-lower n m ks e (b .1))
+
+pub below-member : (n : Name) (ns : List Name) → Below n ns → member n ns ≡ false
 unfolding member
-member-or t n ns e = go (same t n) refl
-  where
-    go : (b : Bool) → same t n ≡ b → Or (t ≡ n) (member t ns ≡ true)
-    go true q = this (same-true t n q)
-    go false q = that (rw q at e)
+below-member n [] b = refl
+below-member n (m ∷ ms) b = rw (not-same-lower n m (b .0)) (below-member n ms (b .1))
 
-insert-ascending : (n : Name) (ms : List Name) → Ascending ms → Ascending (insert n ms)
-unfolding insert member
-insert-ascending n [] a = (λ m e. no-way (cc), tt)
+-- ## What `insert` does at the front
+
+module _ (n m : Name) (ms : List Name) where
+  pub insert-lower : order n m ≡ lower → insert n (m ∷ ms) ≡ n ∷ m ∷ ms
+  unfolding insert
+  insert-lower e = rw (e, insert)
+
+  pub insert-equal : order n m ≡ equal → insert n (m ∷ ms) ≡ m ∷ ms
+  unfolding insert
+  insert-equal e = rw (e, insert)
+
+  pub insert-higher : order n m ≡ higher → insert n (m ∷ ms) ≡ m ∷ insert n ms
+  unfolding insert
+  insert-higher e = rw (e, insert)
+
+-- ## `insert` and `sorted` keep the order
+
+below-insert : (k n : Name) (ns : List Name) → order k n ≡ lower → Below k ns → Below k (insert n ns)
+unfolding insert
+below-insert k n [] e b = (e, tt)
+below-insert k n (m ∷ ms) e b = go (order n m) refl (below-insert k n ms e (b .1))
+  where
+    go : (o : Order) → order n m ≡ o → Below k (insert n ms) → Below k (insert n (m ∷ ms))
+    go lower q i = rw (insert-lower n m ms q) (e, b)
+    go equal q i = rw (insert-equal n m ms q) b
+    go higher q i = rw (insert-higher n m ms q) (b .0, i)
+
+pub insert-ascending : (n : Name) (ns : List Name) → Ascending ns → Ascending (insert n ns)
+unfolding insert
+insert-ascending n [] a = (tt, tt)
 insert-ascending n (m ∷ ms) a = go (order n m) refl (insert-ascending n ms (a .1))
   where
-    below : order n m ≡ lower → Above n (m ∷ ms)
-    below q t e = pass (member-or t m ms e)
-      where
-        pass : Or (t ≡ m) (member t ms ≡ true) → order n t ≡ lower
-        pass (this h) = rw h q
-        pass (that h) = order-lower n m t q (a .0 t h)
-
-    over : order n m ≡ higher → Above m (insert n ms)
-    over q t e = pass (member-or t n ms (sym (member-insert t n ms) ∙ e))
-      where
-        pass : Or (t ≡ n) (member t ms ≡ true) → order m t ≡ lower
-        pass (this h) = rw h (order-turned n m ∙ ap turned q)
-        pass (that h) = a .0 t h
-
     go : (o : Order) → order n m ≡ o → Ascending (insert n ms) → Ascending (insert n (m ∷ ms))
-    go lower q i = rw (q, insert) (below q, a)
-    go equal q i = rw (q, insert) a
-    go higher q i = rw (q, insert) (over q, i)
+    go lower q i = rw (insert-lower n m ms q) ((q, below-lower n m ms q (a .0)), a)
+    go equal q i = rw (insert-equal n m ms q) a
+    go higher q i = rw (insert-higher n m ms q) (below-insert m n ms (higher-turned n m q) (a .0), i)
 
 pub sorted-ascending : (ns : List Name) → Ascending (sorted ns)
 unfolding sorted
 sorted-ascending [] = tt
 sorted-ascending (n ∷ ns) = insert-ascending n (sorted ns) (sorted-ascending ns)
 
--- The first of what goes up is no member of the rest.
-first-once : (n : Name) (ns : List Name) → Above n ns → member n ns ≡ false
-first-once n ns a = go (member n ns) refl
-  where
-    go : (b : Bool) → member n ns ≡ b → member n ns ≡ false
-    go true q = let z : equal ≡ lower = sym (order-refl n) ∙ a n q in no-way (cc)
-    go false q = q
+-- ## What is sorted has the same members
 
-ascending-distinct : (ns : List Name) → Ascending ns → distinct ns ≡ true
+either-twice : (a b : Bool) → either a (either a b) ≡ either a b
+either-twice true b = refl
+either-twice false b = refl
+
+either-turned : (a b c : Bool) → either a (either b c) ≡ either b (either a c)
+either-turned true true c = refl
+either-turned true false c = refl
+either-turned false b c = refl
+
+pub member-insert : (t n : Name) (ms : List Name) → member t (insert n ms) ≡ either (same t n) (member t ms)
+unfolding insert member
+member-insert t n [] = refl
+member-insert t n (m ∷ ms) = go (order n m) refl (member-insert t n ms)
+  where
+    go : (o : Order) → order n m ≡ o → member t (insert n ms) ≡ either (same t n) (member t ms)
+        → member t (insert n (m ∷ ms)) ≡ either (same t n) (member t (m ∷ ms))
+    go lower q i = rw (insert-lower n m ms q)
+    go equal q i = rw (insert-equal n m ms q, equal-iff-same n m .0 q) (sym (either-twice (same t m) (member t ms)))
+    go higher q i = rw (insert-higher n m ms q, i) (either-turned (same t m) (same t n) (member t ms))
+
+pub sorted-member : (t : Name) (ns : List Name) → member t (sorted ns) ≡ member t ns
+unfolding sorted member
+sorted-member t [] = refl
+sorted-member t (n ∷ ns) = member-insert t n (sorted ns) ∙ ap (λ b. either (same t n) b) (sorted-member t ns)
+
+-- And each of them once.
+pub ascending-distinct : (ns : List Name) → Ascending ns → distinct ns ≡ true
 unfolding distinct
 ascending-distinct [] a = refl
-ascending-distinct (n ∷ ns) a = rw (first-once n ns (a .0)) (ascending-distinct ns (a .1))
+ascending-distinct (n ∷ ns) a = rw (below-member n ns (a .0)) (ascending-distinct ns (a .1))
 
 pub sorted-distinct : (ns : List Name) → distinct (sorted ns) ≡ true
 sorted-distinct ns = ascending-distinct (sorted ns) (sorted-ascending ns)
 
--- ## Lists that go up and have the same members are the same
+-- ## A list in order is told by its members
 
-first-same : (x y : Name) (xs ys : List Name) → Above x xs → Above y ys → SameMembers (x ∷ xs) (y ∷ ys) → x ≡ y
-first-same x y xs ys a b h =
-    go (member-or x y ys (sym (h x) ∙ member-here x xs)) (member-or y x xs (h y ∙ member-here y ys))
-  where
-    go : Or (x ≡ y) (member x ys ≡ true) → Or (y ≡ x) (member y xs ≡ true) → x ≡ y
-    go (this e) k = e
-    go (that e) (this k) = sym k
-    go (that e) (that k) =
-        let z : lower ≡ higher = sym (a y k) ∙ order-turned y x ∙ ap turned (b x e) in no-way (cc)
-
-rest-same : (x : Name) (xs ys : List Name) → Above x xs → Above x ys → SameMembers (x ∷ xs) (x ∷ ys) → SameMembers xs ys
+-- Behind its first name.
+members-on : (m n : Name) (ms ns : List Name) → Below n ms → Below n ns → member m (n ∷ ms) ≡ member m (n ∷ ns) → member m ms ≡ member m ns
 unfolding member
-rest-same x xs ys a b h n = go (same n x) refl
+members-on m n ms ns a b e = go (same m n) refl
   where
-    go : (c : Bool) → same n x ≡ c → member n xs ≡ member n ys
-    go true q = rw (same-true n x q) (first-once x xs a ∙ sym (first-once x ys b))
-    go false q = rw q at (h n)
+    go : (t : Bool) → same m n ≡ t → member m ms ≡ member m ns
+    go true q = rw (same-true m n q) (below-member n ms a ∙ sym (below-member n ns b))
+    go false q = rw q at e
 
-pub ascending-same : (xs ys : List Name) → Ascending xs → Ascending ys → SameMembers xs ys → xs ≡ ys
+pub told-by-members : (ms ns : List Name) → Ascending ms → Ascending ns → SameMembers ms ns → ms ≡ ns
 unfolding member
-ascending-same [] [] a b h = refl
-ascending-same [] (y ∷ ys) a b h = let z : false ≡ true = h y ∙ member-here y ys in no-way (cc)
-ascending-same (x ∷ xs) [] a b h = let z : false ≡ true = sym (h x) ∙ member-here x xs in no-way (cc)
-ascending-same (x ∷ xs) (y ∷ ys) a b h =
-    let e = first-same x y xs ys (a .0) (b .0) h in
-    let f : Above x ys = rw e (b .0) in
-    let g : SameMembers (x ∷ xs) (x ∷ ys) = subst (λ z. SameMembers (x ∷ xs) (z ∷ ys)) (sym e) h in
-    let r = ascending-same xs ys (a .1) (b .1) (rest-same x xs ys (a .0) f g) in
-    cc
+told-by-members [] [] a b e = refl
+told-by-members [] (n ∷ ns) a b e = let z = e n in let w = member-here n ns in no-way (cc)
+told-by-members (m ∷ ms) [] a b e = let z = e m in let w = member-here m ms in no-way (cc)
+told-by-members (m ∷ ms) (n ∷ ns) a b e = go (order m n) refl (told-by-members ms ns (a .1) (b .1))
+  where
+    go : (o : Order) → order m n ≡ o → (((k : Name) → member k ms ≡ member k ns) → ms ≡ ns) → m ∷ ms ≡ n ∷ ns
+    go lower q f =
+        let z = e m in let w = member-here m ms in
+        let v = below-member m (n ∷ ns) (q, below-lower m n ns q (b .0)) in no-way (cc)
+    go equal q f =
+        let s = equal-iff-same m n .0 q in
+        let r = f (λ k. members-on k m ms ns (a .0) (rw s (b .0)) (e k ∙ ap (λ x. member k (x ∷ ns)) (sym s))) in cc
+    go higher q f =
+        let t = higher-turned m n q in
+        let z = e n in let w = member-here n ns in
+        let v = below-member n (m ∷ ms) (t, below-lower n m ms t (a .0)) in no-way (cc)
 
 -- WHAT IS SORTED GOES BY THE MEMBERS ALONE.
 pub sorted-members : (xs ys : List Name) → SameMembers xs ys → sorted xs ≡ sorted ys
 sorted-members xs ys h =
-    ascending-same (sorted xs) (sorted ys) (sorted-ascending xs) (sorted-ascending ys)
+    told-by-members (sorted xs) (sorted ys) (sorted-ascending xs) (sorted-ascending ys)
     (λ n. sorted-member n xs ∙ h n ∙ sym (sorted-member n ys))
 
 -- So a name that is added at the end is put in.

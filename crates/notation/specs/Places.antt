@@ -1,18 +1,19 @@
 -- WHERE IN THE TEXT THE TROUBLE IS. A place is a count of bytes from the text's front, and what stands there is known by the bytes from it on.
 use Prim.Native.Nat.{ℕ, zero, suc, _+_, _-_}
+use Prim.Native.Char.{code}
 use mathlib.Core.Bool.{Bool, true, false}
 use mathlib.Core.List.{List, [], _∷_}
 use mathlib.Core.Option.{Option, some, none}
-use lib.Dec.{ltb, leb}
+use lib.Dec.{eqb, ltb}
 use lib.ListN.{length, take}
 use Rattle.format.specs.Reading.{pick}
 use Rattle.format.specs.Written.{written, numbers, encodeNode, heading}
 use Rattle.grammar.specs.Grammar.{Grammar}
 use Rattle.notation.specs.Tree.{Name, Production}
 use Rattle.notation.specs.Token.{Token, Lexeme}
-use Rattle.notation.specs.At.{nameIn}
-use Rattle.notation.specs.Naming.{all, member, Definition, calledBy, tableOf, conditionOf}
-use Rattle.notation.specs.Uses.{says, nothing, definedBy, askedBy, conditionBy, textOf}
+use Rattle.notation.specs.Lexer.{Piece, piece, no, _then_, Skipped, past, unclosed, gap, name, truth}
+use Rattle.notation.specs.Naming.{all, member, Definition}
+use Rattle.notation.specs.Uses.{headOf, callOf, defOf, askOf, quotedIn, isShort}
 use Rattle.notation.specs.OnePattern.{fault}
 use Rattle.notation.specs.Compile.{insert, count}
 
@@ -20,32 +21,21 @@ use Rattle.notation.specs.Compile.{insert, count}
 abbrev pub placeOf : (text rest : List ℕ) → ℕ
 placeOf text rest = length text - length rest
 
+-- The bytes from a token's name on, the token being the front: behind `<`, a word and perhaps a `!`; else the name is the front itself.
+unfoldable pub behindTruth : Piece Bool → List ℕ
+behindTruth no = []
+behindTruth (piece w s) = elim (gap s) [ past r ↦ r | unclosed c ↦ [] ]
+
+unfoldable pub nameIn : List ℕ → List ℕ
+nameIn [] = []
+nameIn (b ∷ s) = pick (eqb b (code "<")) (behindTruth (name s then λ w r. truth r)) (b ∷ s)
+
 -- Where a token begins, and where its name does.
 abbrev pub tokenPlace : List ℕ → Lexeme → ℕ
 tokenPlace text l = placeOf text (l .here)
 
 abbrev pub namePlace : List ℕ → Lexeme → ℕ
 namePlace text l = placeOf text (nameIn (l .here))
-
--- ## What a token names
-
-abbrev pub headOf : Token → List Name
-headOf = says (λ n. n ∷ []) nothing nothing
-
-abbrev pub callOf : Token → List Name
-callOf = says nothing calledBy nothing
-
-abbrev pub defOf : Token → List Name
-defOf = says nothing nothing definedBy
-
-abbrev pub askOf : Token → List Name
-askOf = says nothing tableOf askedBy
-
-abbrev pub switchOf : Token → List Name
-switchOf = says nothing conditionOf conditionBy
-
-abbrev pub quotedIn : Token → List (List ℕ)
-quotedIn = says nothing textOf nothing
 
 -- ## The first of its sort
 
@@ -77,7 +67,7 @@ abbrev pub ninth : List Name → Name → Bool
 ninth before n = ltb 8 (length (insert n before))
 
 abbrev pub long : Token → Bool
-long t = pick (all (λ s. leb (length s) 64) (quotedIn t)) false true
+long t = pick (all isShort (quotedIn t)) false true
 
 -- 24: the production with which a size goes over its limit, the size being told by the number of nodes so far.
 unfoldable pub firstOver : (limit : ℕ) (size : ℕ → ℕ) (nodes : ℕ) → List Production → (heads : List Lexeme) → Option Lexeme

@@ -26,11 +26,11 @@ use Rattle.notation.specs.CompileLaws.{productionNumber, tableNumber, co
 use Rattle.notation.specs.MeansLaws.{emit-length}
 use Rattle.notation.specs.MemberLaws.{either, same-truth, all-append, same-sym}
 use Rattle.notation.specs.OrderLaws.{member-insert, sorted-added}
-use Rattle.notation.specs.Uses.{perToken, headsIn, defsIn, conditionsIn, isShort}
+use Rattle.notation.specs.Uses.{perToken, headsIn, defsIn, conditionsIn, isShort, headOf, callOf, defOf, askOf, switchOf, quotedIn}
 use Rattle.notation.specs.UsesLaws.{heads-are, defs-are, defined-are, once-are, tables-sorted, conditions-sorted, texts-are}
 use Rattle.notation.specs.OnePattern.{fault}
 use Rattle.notation.specs.OnePatternLaws.{first-fault, fault-none}
-use Rattle.notation.specs.Places.{headOf, callOf, defOf, askOf, switchOf, quotedIn, firstWhere, firstName, undefined, again, ninth, long, firstOver, imageUpTo, isHead, isDef, only, numbered, unlike}
+use Rattle.notation.specs.Places.{firstWhere, firstName, undefined, again, ninth, long, firstOver, imageUpTo, isHead, isDef, only, numbered, unlike}
 
 -- Nothing is found.
 abbrev pub isNone : {A : Type 0} → Option A → Bool

@@ -22,11 +22,6 @@ says h f g (before p) = []
 says h f g (after s) = []
 says h f g bad = []
 
--- What tokens say, in order.
-unfoldable pub perToken : {A : Type 0} → (Token → List A) → List Token → List A
-perToken f [] = []
-perToken f (t ∷ ts) = f t ++ perToken f ts
-
 abbrev pub nothing : {A B : Type 0} → A → List B
 nothing x = []
 
@@ -57,24 +52,48 @@ textOf (call n) = []
 textOf (query q t) = []
 textOf (if c w) = []
 
--- The productions that begin, the names called, the tables defined, the tables asked about or closed round, the conditions, and the quoted texts.
+-- What a token names: the production that begins, the name called, the table defined, the table asked about or closed round, the condition; and the
+-- quoted text.
+abbrev pub headOf : Token → List Name
+headOf = says (λ n. n ∷ []) nothing nothing
+
+abbrev pub callOf : Token → List Name
+callOf = says nothing calledBy nothing
+
+abbrev pub defOf : Token → List Name
+defOf = says nothing nothing definedBy
+
+abbrev pub askOf : Token → List Name
+askOf = says nothing tableOf askedBy
+
+abbrev pub switchOf : Token → List Name
+switchOf = says nothing conditionOf conditionBy
+
+abbrev pub quotedIn : Token → List (List ℕ)
+quotedIn = says nothing textOf nothing
+
+-- The same of tokens, in order.
+unfoldable pub perToken : {A : Type 0} → (Token → List A) → List Token → List A
+perToken f [] = []
+perToken f (t ∷ ts) = f t ++ perToken f ts
+
 abbrev pub headsIn : List Token → List Name
-headsIn = perToken (says (λ n. n ∷ []) nothing nothing)
+headsIn = perToken headOf
 
 abbrev pub callsIn : List Token → List Name
-callsIn = perToken (says nothing calledBy nothing)
+callsIn = perToken callOf
 
 abbrev pub defsIn : List Token → List Name
-defsIn = perToken (says nothing nothing definedBy)
+defsIn = perToken defOf
 
 abbrev pub asksIn : List Token → List Name
-asksIn = perToken (says nothing tableOf askedBy)
+asksIn = perToken askOf
 
 abbrev pub conditionsIn : List Token → List Name
-conditionsIn = perToken (says nothing conditionOf conditionBy)
+conditionsIn = perToken switchOf
 
 abbrev pub textsIn : List Token → List (List ℕ)
-textsIn = perToken (says nothing textOf nothing)
+textsIn = perToken quotedIn
 
 -- A quoted text within 24's limit.
 abbrev pub isShort : List ℕ → Bool

@@ -10,14 +10,14 @@ use borrow.Author.Tests.{eq-eqb, ne-eqb, eqb-true, eqb-false, leb-true, leb-fals
 use Rattle.format.specs.Reading.{pick}
 use Rattle.notation.specs.Tree.{Opener}
 use Rattle.notation.specs.Stream.{Symbol, enters, _▸_, ended, broken, want}
-use Rattle.notation.specs.Naming.{kind, sameSymbol}
-use Rattle.notation.specs.Bodies.{sameStreams, definesOn, defsOn}
+use Rattle.notation.specs.Symbols.{kind, sameSymbol}
 use Rattle.lexer.specs.declared.token.Token.{Token}
 use Rattle.lexer.specs.Meant.{openerAt}
 use Rattle.walker.specs.declared.walk.Walk.{Walk}
 use Rattle.walker.specs.declared.walk.Step.{Step}
 use Rattle.walker.specs.Walks.{rest, Walks, toGo, plainOf, symbolAt, Gives, Nexts, Begins}
 use Rattle.walker.specs.SymbolLaws.{by-test, symbol-leaf, symbol-opener, symbol-plain}
+use Rattle.patterns.specs.Bodies.{sameStreams, definesOn, defsOn}
 use Rattle.patterns.specs.Compared.{streamAt, Shown}
 use Rattle.patterns.proofs.ContentsLaws.{shown-kind}
 

@@ -13,11 +13,12 @@ use Rattle.notation.specs.Lexer.{same}
 use Rattle.notation.specs.LexicalText.{no-way}
 use Rattle.notation.specs.At.{nameAt, quotedOf, partsOf, classOf}
 use Rattle.notation.specs.Stream.{Symbol, stands, enters}
-use Rattle.notation.specs.Naming.{ends, bit, kind, contents, sameSymbol}
-use Rattle.notation.specs.AlikeLaws.{same-refl}
+use Rattle.notation.specs.Symbols.{ends, bit, kind, contents, sameSymbol}
+use Rattle.notation.specs.SymbolsLaws.{same-refl}
+use Rattle.notation.specs.OrderLaws.{same-equal, not-same-lower, not-same-higher}
 use Rattle.notation.specs.Compile.{order}
 use Rattle.index.specs.Listed.{orderOf}
-use Rattle.index.specs.OrderLaws.{same-equal, not-same-lower, not-same-higher, is-lower, is-equal, is-higher}
+use Rattle.index.specs.OrderLaws.{is-lower, is-equal, is-higher}
 use Rattle.lexer.specs.declared.token.Token.{Token}
 use Rattle.lexer.specs.Meant.{leafAt, openerAt}
 use Rattle.walker.specs.Walks.{symbolAt, plainOf}

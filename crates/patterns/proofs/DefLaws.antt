@@ -4,7 +4,7 @@ use mathlib.Core.Path.{_≡_, refl, _∙_}
 use mathlib.Core.Bool.{true, false}
 use mathlib.Core.List.{List, [], _∷_, map}
 use native.Mathlib.Omega.{arith}
-use lib.ListN.{length, getD, length-append, List·getD-map}
+use lib.ListN.{length, getD, List·getD-map}
 use borrow.Author.Tests.{ne-eqb}
 use Rattle.notation.specs.Tree.{Name, def, block, local, on}
 use Rattle.notation.specs.Token.{Token, head, leaf, opens, closes, left, right, slash, before, after, bad, Lexeme, bare}
@@ -13,16 +13,16 @@ use Rattle.notation.specs.Lexical as Lexical
 use Rattle.notation.specs.LexicalGap.{Gives, gives, gap-sound, gap-skips, named-front}
 use Rattle.notation.specs.LexicalText.{Yields, yields, no-way}
 use Rattle.notation.specs.LexicalToken.{token-sound, name-complete, truth-complete}
-use Rattle.notation.specs.ShorterLaws.{gap-shorter, token-shorter}
+use Rattle.notation.specs.ShorterLaws.{gap-shorter, named-shorter, then-named, token-shorter}
 use Rattle.notation.specs.Lexer.{Piece, piece, no, Skipped, past, unclosed, gap, skip, nameFront, nameBehind, truth, _then_, token, lexed, lexemes, tokens}
-use Rattle.notation.specs.At.{nameIn, behindTruth}
-use Rattle.notation.specs.Bodies.{Body, bodiesIn, noBody}
-use Rattle.notation.specs.Places.{defOf, isDef, only}
+use Rattle.notation.specs.Uses.{defOf}
+use Rattle.notation.specs.Places.{nameIn, behindTruth, isDef, only}
 use Rattle.lexer.proofs.NameLaws.{letter-high}
 use Rattle.lexer.proofs.LexemeLaws.{lexemes-end, lexemes-open, lexemes-no, lexemes-token}
+use Rattle.patterns.specs.Bodies.{Body, bodiesIn, noBody}
 use Rattle.patterns.specs.Passed.{defsOf, noLexeme}
 
-abbrev pub at : List ℕ → Token → Lexeme
+abbrev at : List ℕ → Token → Lexeme
 at s t = record { here = s; token = t }
 
 -- ## From lexeme to lexeme
@@ -45,7 +45,7 @@ module _ (P : List ℕ → List Lexeme → Type 0) (ends : (s : List ℕ) → P 
       go (past []) e g more = rw (lexemes-end s e) (ends s)
       go (past (b ∷ u)) e (gives g) more = on b u e g (token b u) refl (token-sound b u) more
 
-  pub each-lexeme : (s : List ℕ) → P s (lexemes s)
+  each-lexeme : (s : List ℕ) → P s (lexemes s)
   each-lexeme s = upTo (suc (length s)) s (omega arith)
 
 -- ## What stands behind a def
@@ -68,12 +68,6 @@ name-in : {w n s u t r : List ℕ} → Then (Named w) s u → Gap u t → Named 
 unfolding nameIn behindTruth _then_
 name-in W g N = rw (name-complete W, no-truth g N, gap-skips (no-gap N), behindTruth)
 
-named-shorter : {n s r : List ℕ} → Named n s r → length r < length s
-named-shorter (Lexical.name {n = n} {r = r} e N E) = omega (arith, length-append n r)
-
-then-shorter : {n s r : List ℕ} → Then (Named n) s r → length r < length s
-then-shorter (behind g N) = omega (arith, gap-shorter g, named-shorter N)
-
 -- The name of a def, and what stands behind it. Two bytes at least belong to it.
 record DefAt (n : Name) (u v : List ℕ) : Type 0 where
   front : nameFront (nameIn u) ≡ n
@@ -92,7 +86,7 @@ def-at (an-opener {t = t} a-def W (behind g N)) n e =
     let f : t ≡ n = cc in
     let i = name-in W g N in
     let h = named-front N in
-    record { front = rw i (h .0 ∙ f); rest = rw i (h .1); long = omega (arith, then-shorter W, gap-shorter g, named-shorter N) }
+    record { front = rw i (h .0 ∙ f); rest = rw i (h .1); long = omega (arith, then-named W, gap-shorter g, named-shorter N) }
 def-at (an-opener a-block W N) n e = no-way (cc)
 def-at (an-opener a-local W N) n e = no-way (cc)
 def-at (an-on G W N) n e = no-way (cc)

@@ -3,7 +3,7 @@ use Prim.Native.Nat.{ℕ, zero, suc, _≤_, _<_}
 use mathlib.Core.Path.{_≡_}
 use mathlib.Core.List.{List, [], _∷_, _++_}
 use native.Mathlib.Omega.{arith}
-use lib.ListN.{length, getD, take, drop}
+use lib.ListN.{length, getD, set, take, drop}
 use Rattle.notation.specs.LexicalText.{no-way}
 use Rattle.patterns.specs.Passed.{Every}
 
@@ -29,3 +29,8 @@ module _ (Q : ℕ → Type 0) where
   every-put zero xs y h q = (q, h)
   every-put (suc i) [] y h q = (q, tt)
   every-put (suc i) (x ∷ xs) y h q = (h .0, every-put i xs y (h .1) q)
+
+  pub every-set : (i : ℕ) (xs : List ℕ) (y : ℕ) → Every Q xs → Q y → Every Q (set xs i y)
+  every-set i [] y h q = tt
+  every-set zero (x ∷ xs) y h q = (q, h .1)
+  every-set (suc i) (x ∷ xs) y h q = (h .0, every-set i xs y (h .1) q)

@@ -26,7 +26,7 @@ use Rattle.naming.specs.Found.{found}
 use Rattle.patterns.specs.Passed.{defsOf, defines, Passes}
 use Rattle.patterns.proofs.ListLaws.{none-left}
 use Rattle.patterns.proofs.DefLaws.{only-other}
-use Rattle.patterns.proofs.PassLaws.{known-start, known-end}
+use Rattle.patterns.proofs.KnownLaws.{known-start, known-end}
 
 -- ## Whether a token is a def
 
@@ -89,20 +89,20 @@ module _ {text : List ℕ} {from : ℕ} {t : Token} (L : Lexed text from t) wher
 
 -- ## The pass
 
-pub passes-start : (text firsts : List ℕ) → length firsts ≡ 32768 → Passes text firsts 0 0 (defsOf text)
-passes-start text firsts h = record {
+pub passes-start : (text latest : List ℕ) → length latest ≡ 32768 → Passes text latest 0 0 (defsOf text)
+passes-start text latest h = record {
   number = 0;
   behind = refl;
   few = omega arith;
   ascending = tt;
   long = h;
-  known = λ ps P. known-start text P firsts;
+  known = λ ps P. known-start text P latest;
 }
 
 read-tokens : {text : List ℕ} {ps : List Production} → ReadsAs text ps → Productions (tokens text) ps
 read-tokens r = rw (lexes-once (r .lexes)) (r .derives)
 
-pub passes-end : {text firsts : List ℕ} {count over : ℕ} → Passes text firsts count over [] → (ps : List Production) → ReadsAs text ps
+pub passes-end : {text latest : List ℕ} {count over : ℕ} → Passes text latest count over [] → (ps : List Production) → ReadsAs text ps
     → Nowhere ≡ found (tokenPlace text) (unlike (definitions ps) (lexemes text))
 unfolding numbered
 passes-end {text} {over = over} S ps r =

@@ -1,67 +1,62 @@
--- The pass over a text's defs: what is known of the tables before a place, and one def more.
-use Prim.Native.Nat.{ℕ, zero, suc, _+_, _-_, _≤_, _<_}
+-- The pass finds the fault, and what each of its steps asks of a text's tokens.
+use Prim.Native.Nat.{ℕ, zero, suc, _+_, _≤_, _<_}
 use mathlib.Core.Path.{_≡_, refl, ap, ap₂, sym, _∙_, subst}
 use mathlib.Core.Bool.{Bool, true, false}
-use mathlib.Core.List.{List, [], _∷_}
+use mathlib.Core.List.{List, [], _∷_, _++_, append-assoc}
 use mathlib.Core.Option.{some, none}
 use native.Mathlib.Omega.{arith}
-use lib.Dec.{eqb, ltb}
-use lib.ListN.{length, getD, take, drop, length-map, List·getD-map, List·getD-append}
-use lib.Seq.{getD-take, length-take-le}
-use borrow.Author.Tests.{eq-eqb, ne-eqb, eqb-true, eqb-false, lt-ltb, le-ltb, ltb-true, ltb-false, not-true, not-false}
-use Rattle.format.specs.Reading.{pick}
-use Rattle.notation.specs.Tree.{Name, Production}
-use Rattle.notation.specs.Lexer.{same, nameFront, nameBehind, tokens}
+use lib.Dec.{eqb}
+use lib.ListN.{length, getD, drop, length-append, drop-of-length-le, List·getD-append}
+use lib.Seq.{drop-cons, drop-drop}
+use borrow.Author.Tests.{eqb-true, eqb-false}
+use Rattle.notation.specs.Tree.{def, block, local, on, Tree, leaf, prefix, suffix, binary, within, Production}
 use Rattle.notation.specs.LexicalText.{no-way}
-use Rattle.notation.specs.LexicalToken.{same-true}
-use Rattle.notation.specs.At.{nameAt, nameIn}
-use Rattle.notation.specs.Notation.{Productions}
+use Rattle.notation.specs.Naming.{perOperator, Definition, definitionIn, definitions, alike}
+use Rattle.notation.specs.AlikeLaws.{alike-same}
+use Rattle.notation.specs.Compile.{place}
 use Rattle.notation.specs.Stream.{want, stream}
-use Rattle.notation.specs.Naming.{perOperator, Definition, definitionIn, definitions, alike, member}
-use Rattle.notation.specs.Compile.{insert, place}
-use Rattle.notation.specs.AlikeLaws.{alike-same, same-refl}
+use Rattle.notation.specs.Token.{Token}
+use Rattle.notation.specs.Notation.{Productions}
+use Rattle.notation.specs.Uses.{defsIn}
 use Rattle.notation.specs.UsesLaws.{defs-are}
-use Rattle.notation.specs.Bodies.{bodiesIn, noBody, noDefinition, sameStreams, defsOn}
-use Rattle.notation.specs.BodiesLaws.{bodies-are, beside-length, beside-tables}
-use Rattle.notation.specs.OnePattern.{firstAt, matches, inside, fault, passFrom}
-use Rattle.notation.specs.OnePatternLaws.{Preorder, preorder, pass-finds, pass-end, pass-first, pass-alike, pass-fault, inside-fits, first-is, matches-is, inside-is}
-use Rattle.index.specs.declared.list.Kept.{Kept}
-use Rattle.index.specs.Listed.{namesAt, putIn, Keeps}
-use Rattle.index.specs.ListedLaws.{member-insert}
-use Rattle.index.specs.PlaceLaws.{names-length, names-at, put-front}
-use Rattle.patterns.specs.Compared.{streamAt}
-use Rattle.patterns.specs.Passed.{defsOf, noLexeme, tablesOf, Every, FirstOf, Known}
-use Rattle.patterns.proofs.ListLaws.{every-at, every-put}
-use Rattle.patterns.proofs.DefLaws.{bodyOf, bodies-behind, body-at}
+use Rattle.notation.specs.OnePattern.{noDefinition, firstAt, matches, failing, fault}
+use Rattle.notation.specs.OnePatternLaws.{Good, first-before, first-matches}
+use Rattle.patterns.specs.Bodies.{bodiesIn, noBody, sameStreams, defsOn}
+use Rattle.patterns.specs.Pass.{inside, pass, passFrom}
+use Rattle.patterns.proofs.ListLaws.{front-left}
+use Rattle.patterns.proofs.BodiesLaws.{Of, bodies-are, beside-length, beside-at, bodies-alike, defs-inside}
 
--- ## Places of names
-
--- A name's place is not behind where it stands; and there it stands.
-place-within : (ns : List Name) (i : ℕ) → i < length ns → place (getD ns i []) ns ≤ i
-unfolding place
-place-within [] i h = absurd (omega arith)
-place-within (n ∷ ns) zero h = rw (same-refl n) (omega arith)
-place-within (n ∷ ns) (suc i) h = go (same (getD ns i []) n) refl (place-within ns i (omega arith))
-  where
-    go : (b : Bool) → same (getD ns i []) n ≡ b → place (getD ns i []) ns ≤ i → place (getD ns i []) (n ∷ ns) ≤ suc i
-    go true q r = rw q (omega arith)
-    go false q r = rw q (omega arith)
-
-place-named : (n : Name) (ns : List Name) → place n ns < length ns → getD ns (place n ns) [] ≡ n
-unfolding place
-place-named n [] h = absurd (omega arith)
-place-named n (m ∷ ms) h = go (same n m) refl (place-named n ms)
-  where
-    go : (b : Bool) → same n m ≡ b → (place n ms < length ms → getD ms (place n ms) [] ≡ n) → getD (m ∷ ms) (place n (m ∷ ms)) [] ≡ n
-    go true q r = rw q (sym (same-true n m q))
-    go false q r = rw q (r (omega (arith, rw q at h)))
+-- The definition at a place.
+abbrev at : List Definition → ℕ → Definition
+at ds i = getD ds i noDefinition
 
 -- ## Definitions inside one follow it
 
+-- Behind each stand those that are inside it.
+abbrev pub Preorder : List Definition → Type 0
+Preorder [] = Unit
+Preorder (d ∷ ds) = ((more : List Definition) × (ds ≡ perOperator definitionIn (d .pattern) ++ more)) × Preorder ds
+
+preorder-of : (a : Tree) (ds : List Definition) → Preorder ds → Preorder (perOperator definitionIn a ++ ds)
+preorder-of (leaf l) ds h = h
+preorder-of (prefix p a) ds h = preorder-of a ds h
+preorder-of (suffix s a) ds h = preorder-of a ds h
+preorder-of (binary b x y) ds h =
+    rw (append-assoc (perOperator definitionIn x) (perOperator definitionIn y) ds)
+    (preorder-of x (perOperator definitionIn y ++ ds) (preorder-of y ds h))
+preorder-of (within (def t) a) ds h = ((ds, refl), preorder-of a ds h)
+preorder-of (within (block t) a) ds h = preorder-of a ds h
+preorder-of (within (local t) a) ds h = preorder-of a ds h
+preorder-of (within (on c w) a) ds h = preorder-of a ds h
+
+pub preorder : (ps : List Production) → Preorder (definitions ps)
+preorder [] = tt
+preorder (p ∷ ps) = preorder-of (p .body) (definitions ps) (preorder ps)
+
 -- The m-th of those inside is the m-th behind it.
 inside-at :
-    (ds : List Definition) → Preorder ds → (i m : ℕ) → i < length ds → m < inside (getD ds i noDefinition)
-    → getD ds (suc (i + m)) noDefinition ≡ getD (perOperator definitionIn ((getD ds i noDefinition) .pattern)) m noDefinition
+    (ds : List Definition) → Preorder ds → (i m : ℕ) → i < length ds → m < inside (at ds i)
+    → at ds (suc (i + m)) ≡ at (perOperator definitionIn ((at ds i) .pattern)) m
 inside-at [] P i m h l = absurd (omega arith)
 inside-at (d ∷ ds) P zero m h l =
     let z : 0 + m ≡ m = omega arith in
@@ -70,215 +65,146 @@ inside-at (d ∷ ds) P zero m h l =
 inside-at (d ∷ ds) P (suc i) m h l = let z : suc i + m ≡ suc (i + m) = omega arith in rw z (inside-at ds (P .1) i m (omega arith) l)
 
 -- So those inside two that are alike are the same.
-inside-same :
-    (ds : List Definition) → Preorder ds → (i j m : ℕ) → i < length ds → j < length ds → (getD ds j noDefinition) .pattern ≡ (getD ds i noDefinition) .pattern
-    → m < inside (getD ds i noDefinition) → getD ds (suc (i + m)) noDefinition ≡ getD ds (suc (j + m)) noDefinition
+pub inside-same :
+    (ds : List Definition) → Preorder ds → (i j m : ℕ) → i < length ds → j < length ds
+    → (getD ds j noDefinition) .pattern ≡ (getD ds i noDefinition) .pattern → m < inside (getD ds i noDefinition)
+    → getD ds (suc (i + m)) noDefinition ≡ getD ds (suc (j + m)) noDefinition
 inside-same ds P i j m h k e l =
-    inside-at ds P i m h l ∙ ap (λ a. getD (perOperator definitionIn a) m noDefinition) (sym e)
+    inside-at ds P i m h l ∙ ap (λ a. at (perOperator definitionIn a) m) (sym e)
     ∙ sym (inside-at ds P j m k (subst (λ a. m < length (perOperator definitionIn a)) (sym e) l))
 
--- ## What is known before a def
+-- ## So those inside one that is alike match, as those inside the first do
 
-module _ (text : List ℕ) {ps : List Production} (P : Productions (tokens text) ps) where
-  -- Tables, bodies, defs and definitions go pairwise.
-  table-at : (i : ℕ) → getD (tablesOf text) i [] ≡ (getD (bodiesIn (tokens text)) i noBody) .table
-  table-at i =
-      rw (defs-are P ∙ sym (beside-tables (bodies-are P))) (List·getD-map (λ b. b .table) (bodiesIn (tokens text)) i noBody)
+module _ (ds : List Definition) (P : Preorder ds) where
+  -- If all before it match, and it is alike to one before it, then all inside it match.
+  inside-good :
+      (i j m : ℕ) → i < length ds → j < i → (at ds j) .pattern ≡ (at ds i) .pattern → m ≤ inside (at ds i) → Good ds (suc i) → Good ds (suc (i + m))
+  inside-good i j zero h l e k g = let z : i + 0 ≡ i = omega arith in rw z g
+  inside-good i j (suc m) h l e k g = λ n b. go n b (eqb n (suc (i + m))) refl (inside-good i j m h l e (omega arith) g)
+    where
+      go : (n : ℕ) → n < suc (i + suc m) → (c : Bool) → eqb n (suc (i + m)) ≡ c → Good ds (suc (i + m)) → matches ds (at ds n) ≡ true
+      go n b false q r = let x = eqb-false n (suc (i + m)) q in r n (omega arith)
+      go n b true q r =
+          rw (eqb-true n (suc (i + m)) q, inside-same ds P i j m h (omega arith) e (omega arith)) (r (suc (j + m)) (omega arith))
 
-  table-of : (i : ℕ) → getD (tablesOf text) i [] ≡ (getD (definitions ps) i noDefinition) .table
-  table-of i = rw (defs-are P) (List·getD-map (λ d. d .table) (definitions ps) i noDefinition)
+  good-on : (i : ℕ) → Good ds i → matches ds (at ds i) ≡ true → Good ds (suc i)
+  good-on i g m n l = go (eqb n i) refl
+    where
+      go : (b : Bool) → eqb n i ≡ b → matches ds (at ds n) ≡ true
+      go true q = rw (eqb-true n i q) m
+      go false q = let x = eqb-false n i q in g n (omega arith)
 
-  many-tables : length (tablesOf text) ≡ length (definitions ps)
-  many-tables = rw (defs-are P) (length-map (definitions ps) (λ d. d .table))
+  -- One step of the pass, by what comes behind it.
+  one-step :
+      (i : ℕ) (rest : List Definition) → i < length ds → Good ds i
+      → ((n : ℕ) → Good ds (suc i + n) → pass ds rest (suc i) n ≡ failing (matches ds) rest (suc i))
+      → pass ds (at ds i ∷ rest) i 0 ≡ failing (matches ds) (at ds i ∷ rest) i
+  unfolding pass failing
+  one-step i rest l g r = go (eqb j i) (matches ds (at ds i)) refl refl
+    where
+      j : ℕ
+      j = firstAt ds ((at ds i) .table)
 
-  many-bodies : length (bodiesIn (tokens text)) ≡ length (definitions ps)
-  many-bodies = beside-length (bodies-are P)
+      go : (b c : Bool) → eqb j i ≡ b → matches ds (at ds i) ≡ c → pass ds (at ds i ∷ rest) i 0 ≡ failing (matches ds) (at ds i ∷ rest) i
+      go true c q m =
+          let k = first-matches ds i (eqb-true j i q) in
+          let z : suc i + 0 ≡ suc i = omega arith in
+          rw (q, k) (r 0 (rw z (good-on i g k)))
+      go false true q m =
+          let n = eqb-false j i q in
+          let b : j < i = omega (arith, first-before ds i l, n) in
+          let e = alike-same ((at ds j) .pattern) ((at ds i) .pattern) .0 m in
+          let z : suc i + inside (at ds i) ≡ suc (i + inside (at ds i)) = omega arith in
+          rw (q, m) (r (inside (at ds i)) (rw z (inside-good i j (inside (at ds i)) l b e (omega arith) (good-on i g m))))
+      go false false q m = rw (q, m)
 
-  many-defs : length (defsOf text) ≡ length (definitions ps)
-  many-defs = sym (ap length (bodies-behind text) ∙ length-map (defsOf text) bodyOf) ∙ many-bodies
+  passes : (rest : List Definition) (i n : ℕ) → drop i ds ≡ rest → Good ds (i + n) → pass ds rest i n ≡ failing (matches ds) rest i
+  unfolding pass failing
+  passes [] i n e g = refl
+  passes (d ∷ rest) i (suc n) e g =
+      let l = front-left noDefinition ds i e in
+      let m : matches ds d ≡ true = subst (λ d. matches ds d ≡ true) (l .1) (g i (omega arith)) in
+      let z : i + suc n ≡ suc i + n = omega arith in
+      rw m (passes rest (suc i) n (l .2) (rw z at g))
+  passes (d ∷ rest) i zero e g =
+      let l = front-left noDefinition ds i e in
+      let z : i + 0 ≡ i = omega arith in
+      subst (λ d. pass ds (d ∷ rest) i 0 ≡ failing (matches ds) (d ∷ rest) i) (l .1)
+      (one-step i rest (l .0) (rw z at g) (λ n. passes rest (suc i) n (l .2)))
 
-  -- At the start, and at the end.
-  pub known-start : (firsts : List ℕ) → Known text ps firsts 0 0
-  unfolding member
-  known-start firsts = record {
-    tables = λ n. sym (le-ltb (place n (tablesOf text)) 0 (omega arith));
-    places = tt;
-    passes = pass-finds (definitions ps) (preorder ps);
-  }
+  -- THE PASS FINDS THE FAULT.
+  pub pass-finds : passFrom ds 0 ≡ fault ds
+  pass-finds = passes ds 0 0 refl (λ i h. absurd (omega arith))
 
-  pub known-end : {firsts : List ℕ} {count k : ℕ} → Known text ps firsts count k → length (defsOf text) ≤ k → fault (definitions ps) ≡ none
-  known-end {k = k} K h = sym (K .passes) ∙ pass-end (definitions ps) k (omega (arith, many-defs))
+-- ## The pass, step by step
 
-  -- A def more, whose name stands at p.
-  module _ {firsts : List ℕ} {count i p : ℕ} {now : List ℕ} {r : Kept} (K : Known text ps firsts count i) (h : i < length (defsOf text))
-      (e : drop p text ≡ nameIn ((getD (defsOf text) i noLexeme) .here)) (k : Keeps text firsts count p now r) where
-    abbrev n : Name
-    n = nameAt text p
+-- What it passes over it leaves behind at once.
+pass-over : (ds rest : List Definition) (i n : ℕ) → pass ds rest i n ≡ pass ds (drop n rest) (i + n) 0
+unfolding pass
+pass-over ds [] i zero = refl
+pass-over ds [] i (suc n) = refl
+pass-over ds (d ∷ rest) i zero = let z : i + 0 ≡ i = omega arith in rw z
+pass-over ds (d ∷ rest) i (suc n) = let z : i + suc n ≡ suc i + n = omega arith in rw z (pass-over ds rest (suc i) n)
 
-    is-table : getD (tablesOf text) i [] ≡ n
-    is-table = table-at i ∙ ap (λ b. b .table) (body-at text i) ∙ ap nameFront (sym e)
+module _ (ds : List Definition) (i : ℕ) where
+  pub pass-end : length ds ≤ i → passFrom ds i ≡ none
+  unfolding pass
+  pass-end h = rw (drop-of-length-le ds {i = i} h)
 
-    -- Where its table is first.
-    is-first : firstAt (definitions ps) ((getD (definitions ps) i noDefinition) .table) ≡ place n (tablesOf text)
-    is-first = first-is P i (omega (arith, many-defs, many-bodies)) ∙ ap (λ m. place m (tablesOf text)) (sym (table-at i) ∙ is-table)
+  module _ (h : i < length ds) where
+    pub pass-first : eqb (firstAt ds ((getD ds i noDefinition) .table)) i ≡ true → passFrom ds i ≡ passFrom ds (suc i)
+    unfolding pass
+    pass-first e = rw (drop-cons ds i noDefinition h, e)
 
-    within : place n (tablesOf text) ≤ i
-    within = subst (λ m. place m (tablesOf text) ≤ i) is-table (place-within (tablesOf text) i (omega (arith, many-defs, many-tables)))
+    pub pass-alike :
+        eqb (firstAt ds ((getD ds i noDefinition) .table)) i ≡ false → matches ds (getD ds i noDefinition) ≡ true
+        → passFrom ds i ≡ passFrom ds (suc i + inside (getD ds i noDefinition))
+    unfolding pass
+    pass-alike e m =
+        rw (drop-cons ds i noDefinition h, e, m)
+        (pass-over ds (drop (suc i) ds) (suc i) (inside (at ds i))
+        ∙ ap (λ l. pass ds l (suc i + inside (at ds i)) 0) (drop-drop (inside (at ds i)) (suc i) ds))
 
-    -- ## A table that is new
+    pub pass-fault : matches ds (getD ds i noDefinition) ≡ false → passFrom ds i ≡ some i
+    unfolding pass
+    pass-fault m = go (eqb j i) refl
+      where
+        j : ℕ
+        j = firstAt ds ((at ds i) .table)
 
-    module _ (room : count < length firsts) (f : r .fresh ≡ true) where
-      at-i : place n (tablesOf text) ≡ i
-      at-i =
-          let m = not-true (member n (namesAt text firsts count)) (sym (k .fresh) ∙ f) in
-          let l = ltb-false (place n (tablesOf text)) i (sym (K .tables n) ∙ m) in omega (arith, within)
+        go : (b : Bool) → eqb j i ≡ b → passFrom ds i ≡ some i
+        go true q = let z : true ≡ false = sym (first-matches ds i (eqb-true j i q)) ∙ m in no-way (cc)
+        go false q = rw (drop-cons ds i noDefinition h, q, m)
 
-      one-table : (m : Name) → pick (same m n) true (ltb (place m (tablesOf text)) i) ≡ ltb (place m (tablesOf text)) (suc i)
-      one-table m = go (same m n) (ltb (place m (tablesOf text)) i) refl refl
-        where
-          go : (b c : Bool) → same m n ≡ b → ltb (place m (tablesOf text)) i ≡ c → pick b true c ≡ ltb (place m (tablesOf text)) (suc i)
-          go true c q w =
-              let z : place m (tablesOf text) ≡ i = ap (λ x. place x (tablesOf text)) (same-true m n q) ∙ at-i in
-              sym (lt-ltb (place m (tablesOf text)) (suc i) (omega arith))
-          go false true q w =
-              let l = ltb-true (place m (tablesOf text)) i w in sym (lt-ltb (place m (tablesOf text)) (suc i) (omega arith))
-          go false false q w =
-              let l = ltb-false (place m (tablesOf text)) i w in
-              sym (le-ltb (place m (tablesOf text)) (suc i) (other (eqb (place m (tablesOf text)) i) refl))
-            where
-              other : (b : Bool) → eqb (place m (tablesOf text)) i ≡ b → suc i ≤ place m (tablesOf text)
-              other false z = let x = eqb-false (place m (tablesOf text)) i z in let l = ltb-false (place m (tablesOf text)) i w in omega arith
-              other true z =
-                  let x = eqb-true (place m (tablesOf text)) i z in
-                  let y : getD (tablesOf text) i [] ≡ m =
-                  subst (λ j. getD (tablesOf text) j [] ≡ m) x (place-named m (tablesOf text) (omega (arith, many-defs, many-tables))) in
-                  let s : same m n ≡ true = subst (λ j. same m j ≡ true) (sym y ∙ is-table) (same-refl m) in no-way (cc)
+-- What is passed over is in the list.
+pub inside-fits : (ds : List Definition) → Preorder ds → (i : ℕ) → i < length ds → i + inside (getD ds i noDefinition) < length ds
+inside-fits [] P i h = absurd (omega arith)
+inside-fits (d ∷ ds) P zero h =
+    let n = ap length (P .0 .1) ∙ length-append (perOperator definitionIn (d .pattern)) (P .0 .0) in omega arith
+inside-fits (d ∷ ds) P (suc i) h = omega (arith, inside-fits ds (P .1) i (omega arith))
 
-      pub known-first : Known text ps now (r .count) (suc i)
-      known-first = record {
-        tables = λ m.
-            ap (member m) (k .names) ∙ member-insert m n (namesAt text firsts count)
-            ∙ ap (λ b. pick (same m n) true b) (K .tables m) ∙ one-table m;
-        places =
-            subst (Every (FirstOf text))
-            (sym
-            (ap₂ take (k .many ∙ ap (λ b. pick b (count + 1) count) f) (k .whole ∙ ap (λ b. pick b (putIn firsts count (r .index) p) firsts) f)
-            ∙ put-front firsts count (r .index) p (omega (arith, k .inside, k .most)) room))
-            (every-put (FirstOf text) (r .index) (take count firsts) p (K .places)
-            (e ∙ ap (λ j. nameIn ((getD (defsOf text) j noLexeme) .here)) (sym at-i)));
-        passes =
-            sym
-            (pass-first (definitions ps) i (omega (arith, many-defs))
-            (eq-eqb (firstAt (definitions ps) ((getD (definitions ps) i noDefinition) .table)) i (is-first ∙ at-i)))
-            ∙ K .passes;
-      }
+-- ## By the tokens
 
-    -- ## A table that is known
+-- What a step asks of a definition, by its body: the place of the first, whether two walks put out the same, and how many defs begin on the way.
+module _ {ts : List Token} {ps : List Production} (P : Productions ts ps) (i : ℕ) (h : i < length (bodiesIn ts)) where
+  abbrev first : ℕ
+  first = place ((getD (bodiesIn ts) i noBody) .table) (defsIn ts)
 
-    module _ (room : count < length firsts) (f : r .fresh ≡ false) where
-      before : place n (tablesOf text) < i
-      before =
-          ltb-true (place n (tablesOf text)) i
-          (sym (K .tables n) ∙ not-false (member n (namesAt text firsts count)) (sym (k .fresh) ∙ f))
+  fits : i < length (definitions ps)
+  fits = rw (beside-length (bodies-are P)) at h
 
-      same-count : r .count ≡ count
-      same-count = k .many ∙ ap (λ b. pick b (count + 1) count) f
+  this : Of (getD (bodiesIn ts) i noBody) (at (definitions ps) i)
+  this = beside-at (bodies-are P) i fits
 
-      same-now : now ≡ firsts
-      same-now = k .whole ∙ ap (λ b. pick b (putIn firsts count (r .index) p) firsts) f
+  pub first-is : firstAt (definitions ps) ((getD (definitions ps) i noDefinition) .table) ≡ first
+  first-is = ap₂ place (sym (this .of-table)) (sym (defs-are P))
 
-      -- The place that is kept for it.
-      abbrev x : ℕ
-      x = getD now (r .index) 0
+  -- Against another.
+  pub alike-is :
+      (j : ℕ) → j < length (bodiesIn ts)
+      → alike ((getD (definitions ps) j noDefinition) .pattern) ((getD (definitions ps) i noDefinition) .pattern)
+      ≡ sameStreams (stream ((getD (bodiesIn ts) j noBody) .ahead) want []) (stream ((getD (bodiesIn ts) i noBody) .ahead) want [])
+  alike-is j l = sym (bodies-alike (beside-at (bodies-are P) j (rw (beside-length (bodies-are P)) at l)) this)
 
-      x-named : nameAt text x ≡ n
-      x-named =
-          let fits : r .count ≤ length now = omega (arith, same-count, k .long) in
-          let l = names-length text now (r .count) fits in
-          let i = k .index in
-          let j = k .inside in
-          sym (names-at text now (r .count) fits (r .index) (k .inside)) ∙ ap₂ (λ l j. getD l j []) (k .names) (k .index)
-          ∙ place-named n (insert n (namesAt text firsts count)) (omega (arith, ap length (k .names)))
-
-      x-first : drop x text ≡ nameIn ((getD (defsOf text) (place n (tablesOf text)) noLexeme) .here)
-      x-first =
-          let j : r .index < count = omega (arith, same-count, k .inside) in
-          let q : FirstOf text x =
-          subst (FirstOf text) (getD-take count firsts (r .index) 0 j ∙ ap (λ l. getD l (r .index) 0) (sym same-now))
-          (every-at (FirstOf text) (take count firsts) (K .places) (r .index) (omega (arith, length-take-le count firsts (omega arith)))) in
-          q ∙ ap (λ m. nameIn ((getD (defsOf text) (place m (tablesOf text)) noLexeme) .here)) x-named
-
-      -- The two bodies: behind the name that is kept, and behind this one.
-      module _ (a b : ℕ) (ea : nameBehind (drop x text) ≡ drop a text) (eb : (bodyOf (getD (defsOf text) i noLexeme)) .ahead ≡ tokens (drop b text)) where
-        this-ahead : (getD (bodiesIn (tokens text)) i noBody) .ahead ≡ tokens (drop b text)
-        this-ahead = ap (λ c. c .ahead) (body-at text i) ∙ eb
-
-        first-ahead : (getD (bodiesIn (tokens text)) (place ((getD (bodiesIn (tokens text)) i noBody) .table) (tablesOf text)) noBody) .ahead ≡ tokens (drop a text)
-        first-ahead =
-            ap (λ m. (getD (bodiesIn (tokens text)) (place m (tablesOf text)) noBody) .ahead) (sym (table-at i) ∙ is-table)
-            ∙ ap (λ c. c .ahead) (body-at text (place n (tablesOf text))) ∙ ap (λ s. tokens (nameBehind s)) (sym x-first) ∙ ap tokens ea
-
-        is-match : matches (definitions ps) (getD (definitions ps) i noDefinition) ≡ sameStreams (streamAt text a) (streamAt text b)
-        is-match =
-            matches-is P i (omega (arith, many-defs, many-bodies))
-            ∙ ap₂ (λ s t. sameStreams (stream s want []) (stream t want [])) first-ahead this-ahead
-
-        is-inside : inside (getD (definitions ps) i noDefinition) ≡ defsOn (streamAt text b)
-        is-inside = inside-is P i (omega (arith, many-defs, many-bodies)) ∙ ap (λ s. defsOn (stream s want [])) this-ahead
-
-        -- Not alike: here is the fault.
-        pub known-fault : sameStreams (streamAt text a) (streamAt text b) ≡ false → fault (definitions ps) ≡ some i
-        known-fault q = sym (K .passes) ∙ pass-fault (definitions ps) i (omega (arith, many-defs)) (is-match ∙ q)
-
-        -- Alike: no table begins among those inside it.
-        module _ (q : sameStreams (streamAt text a) (streamAt text b) ≡ true) where
-          abbrev j : ℕ
-          j = place n (tablesOf text)
-
-          patterns : (getD (definitions ps) j noDefinition) .pattern ≡ (getD (definitions ps) i noDefinition) .pattern
-          patterns =
-              alike-same ((getD (definitions ps) j noDefinition) .pattern) ((getD (definitions ps) i noDefinition) .pattern) .0
-              (subst (λ m. alike ((getD (definitions ps) m noDefinition) .pattern) ((getD (definitions ps) i noDefinition) .pattern) ≡ true) is-first (is-match ∙ q))
-
-          none-inside : (d : ℕ) → d ≤ inside (getD (definitions ps) i noDefinition) → place (getD (tablesOf text) (i + d) []) (tablesOf text) < i + d
-          none-inside zero l =
-              let z : i + 0 ≡ i = omega arith in rw (z, is-table) before
-          none-inside (suc d) l =
-              let z : i + suc d ≡ suc (i + d) = omega arith in
-              let w = inside-fits (definitions ps) (preorder ps) i (omega (arith, many-defs)) in
-              let t : getD (tablesOf text) (suc (i + d)) [] ≡ getD (tablesOf text) (suc (j + d)) [] =
-              table-of (suc (i + d))
-              ∙ ap (λ c. c .table)
-              (inside-same (definitions ps) (preorder ps) i j d (omega (arith, many-defs)) (omega (arith, many-defs, before)) patterns (omega arith))
-              ∙ sym (table-of (suc (j + d))) in
-              rw (z, t) (omega (arith, before, place-within (tablesOf text) (suc (j + d)) (omega (arith, before, many-tables))))
-
-          none-new : (m : Name) → ltb (place m (tablesOf text)) i ≡ ltb (place m (tablesOf text)) (suc i + defsOn (streamAt text b))
-          none-new m = go (ltb (place m (tablesOf text)) i) (ltb (place m (tablesOf text)) (suc i + defsOn (streamAt text b))) refl refl
-            where
-              go : (t c : Bool) → ltb (place m (tablesOf text)) i ≡ t → ltb (place m (tablesOf text)) (suc i + defsOn (streamAt text b)) ≡ c → t ≡ c
-              go true c u v =
-                  let w = ltb-true (place m (tablesOf text)) i u in
-                  sym (lt-ltb (place m (tablesOf text)) (suc i + defsOn (streamAt text b)) (omega arith)) ∙ v
-              go false false u v = refl
-              go false true u v =
-                  let l = ltb-false (place m (tablesOf text)) i u in
-                  let w = ltb-true (place m (tablesOf text)) (suc i + defsOn (streamAt text b)) v in
-                  let y = inside-fits (definitions ps) (preorder ps) i (omega (arith, many-defs)) in
-                  let z : i + (place m (tablesOf text) - i) ≡ place m (tablesOf text) = omega arith in
-                  let t = subst (λ d. place (getD (tablesOf text) d []) (tablesOf text) < d) z (none-inside (place m (tablesOf text) - i) (omega (arith, is-inside))) in
-                  let s = place-named m (tablesOf text) (omega (arith, many-tables, is-inside)) in
-                  absurd (omega (arith, rw s at t))
-
-          pub known-alike : Known text ps now (r .count) (suc i + defsOn (streamAt text b))
-          known-alike = record {
-            tables = λ m. ap₂ (λ l c. member m (namesAt text l c)) same-now same-count ∙ K .tables m ∙ none-new m;
-            places = subst (Every (FirstOf text)) (sym (ap₂ take same-count same-now)) (K .places);
-            passes =
-                ap (λ d. passFrom (definitions ps) (suc i + d)) (sym is-inside)
-                ∙ sym
-                (pass-alike (definitions ps) i (omega (arith, many-defs))
-                (ne-eqb (firstAt (definitions ps) ((getD (definitions ps) i noDefinition) .table)) i (λ z. omega (arith, is-first, before)))
-                (is-match ∙ q))
-                ∙ K .passes;
-          }
+  pub inside-is : inside (getD (definitions ps) i noDefinition) ≡ defsOn (stream ((getD (bodiesIn ts) i noBody) .ahead) want [])
+  inside-is = rw (this .walked) (sym (defs-inside ((at (definitions ps) i) .pattern)))

@@ -6,11 +6,11 @@ use mathlib.Core.List.{List, []}
 use lib.ListN.{drop}
 use Rattle.notation.specs.Lexer.{tokens}
 use Rattle.notation.specs.Stream.{Stream, want, stream}
-use Rattle.notation.specs.Bodies.{sameStreams, defsOn}
 use Rattle.lexer.specs.declared.token.Token.{Token}
 use Rattle.walker.specs.Walks.{Taken}
 use Rattle.patterns.specs.declared.alike.Likeness.{Likeness}
 use Rattle.patterns.specs.declared.alike.Likeness.the-variants.{Unlike, Same}
+use Rattle.patterns.specs.Bodies.{sameStreams, defsOn}
 
 -- What a walk puts out that begins at a place, where an expression must begin.
 abbrev pub streamAt : List ℕ → ℕ → Stream

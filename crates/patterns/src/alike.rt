@@ -3,6 +3,7 @@ use crate::contents::same_contents;
 use walker::walk::inside;
 use walker::walk::next;
 ghost use Prim.Native.Nat.{_≤_};
+ghost use mathlib.Core.Path.{_≡_};
 ghost use lib.ListN.{length};
 ghost use Rattle.patterns.specs.Compared.{streamAt, Compares};
 
@@ -12,19 +13,24 @@ pub enum Likeness {
     Same(usize),
 }
 
-// Compares the expressions at p and at q, symbol by symbol, up to the `>` behind them.
-pub fn alike(text: &[u8], p: usize, q: usize) -> Likeness
-    requires { ⌜ length (now text) ≤ 65535 ⌝ }
-    ensures { λ r. ⌜ Compares (streamAt (now (text .entry)) p) (streamAt (now (text .entry)) q) r ⌝ }
+// Compares the expressions at p and at q, symbol by symbol, up to the `>` behind them. `left` and `right` are lent for what is open on the way, and
+// what stands in them does not matter.
+pub fn alike(
+    text: &[u8],
+    left: &mut [u8; 65536],
+    right: &mut [u8; 65536],
+    p: usize,
+    q: usize,
+) -> Likeness
+    requires { ⌜ (length (now left) ≡ 65536) × (length (now right) ≡ 65536) × (length (now text) ≤ 65535) ⌝ }
+    ensures { λ r. ⌜ Compares (streamAt (now (text .entry)) p) (streamAt (now (text .entry)) q) r × (length (now (left .exit)) ≡ 65536) × (length (now (right .exit)) ≡ 65536) ⌝ }
 {
-    let mut left = [0u8; 65536];
-    let mut right = [0u8; 65536];
     let mut v = inside(text, p);
     let mut w = inside(text, q);
     let mut defs = 0;
     loop {
-        let a = next(text, &mut left, v);
-        let b = next(text, &mut right, w);
+        let a = next(text, left, v);
+        let b = next(text, right, w);
         let symbol = a.symbol;
         if symbol != b.symbol {
             return Likeness::Unlike;

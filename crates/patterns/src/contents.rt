@@ -7,7 +7,7 @@ ghost use mathlib.Core.Path.{_≡_};
 ghost use mathlib.Core.List.{_∷_};
 ghost use Rattle.notation.specs.Lexer.{same};
 ghost use Rattle.notation.specs.At.{nameAt};
-ghost use Rattle.notation.specs.Naming.{bit, sameSymbol};
+ghost use Rattle.notation.specs.Symbols.{bit, sameSymbol};
 ghost use Rattle.walker.specs.Walks.{symbolAt};
 ghost use Rattle.patterns.specs.Compared.{Shown};
 

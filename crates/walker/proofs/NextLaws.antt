@@ -7,7 +7,7 @@ use borrow.Author.Tests.{ne-eqb}
 use native.Mathlib.Omega.{arith}
 use Rattle.notation.specs.Tree.{and, not}
 use Rattle.notation.specs.Stream.{_▸▸_, Pending}
-use Rattle.notation.specs.Naming as Naming
+use Rattle.notation.specs.Symbols as Symbols
 use Rattle.lexer.specs.declared.token.Token.{Token}
 use Rattle.walker.specs.declared.walk.Walk.{Walk}
 use Rattle.walker.specs.declared.walk.Step.{Step}
@@ -20,7 +20,7 @@ use Rattle.walker.proofs.WalkLaws.{Which, Shows, nothing, one, rest-com
 -- ## Symbols
 
 -- What closing puts out is told by its number.
-closed-symbol : {b : ℕ} {p : Pending} → Entry b p → 2 ≤ b → (text : List ℕ) (t : Token) → symbolAt text (Naming.kind (closing p)) t ≡ closing p
+closed-symbol : {b : ℕ} {p : Pending} → Entry b p → 2 ≤ b → (text : List ℕ) (t : Token) → symbolAt text (Symbols.kind (closing p)) t ≡ closing p
 unfolding symbolAt plainOf closing
 closed-symbol a-bracket l text t = absurd (omega arith)
 closed-symbol an-angle l text t = absurd (omega arith)

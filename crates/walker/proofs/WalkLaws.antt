@@ -14,7 +14,7 @@ use Rattle.notation.specs.Token.{bare}
 use Rattle.notation.specs.Token as N
 use Rattle.notation.specs.Lexer.{lexemes}
 use Rattle.notation.specs.Stream.{Symbol, back, Stream, _▸_, _▸▸_, ended, broken, Pending, Mode}
-use Rattle.notation.specs.Naming as Naming
+use Rattle.notation.specs.Symbols as Symbols
 use Rattle.lexer.specs.declared.token.Token.{Token}
 use Rattle.lexer.specs.Meant.{suffixOf, meant, placed, ahead, Numbers, Lexed}
 use Rattle.walker.proofs.act.Act.{the-type}
@@ -118,7 +118,7 @@ shows is-after n ns = let h = ns .3 refl in one (omega arith) (omega arith)
 shows is-bad n ns = nothing refl
 
 -- What closing puts out has another number.
-closed-number : {b : ℕ} {p : Pending} → Entry b p → 2 ≤ b → (15 ≤ Naming.kind (closing p)) × (Naming.kind (closing p) ≤ 21)
+closed-number : {b : ℕ} {p : Pending} → Entry b p → 2 ≤ b → (15 ≤ Symbols.kind (closing p)) × (Symbols.kind (closing p) ≤ 21)
 unfolding closing
 closed-number a-bracket l = absurd (omega arith)
 closed-number an-angle l = absurd (omega arith)

@@ -6,7 +6,7 @@ use lib.Dec.{eqb}
 use lib.ListN.{length}
 use Rattle.format.specs.Reading.{pick}
 use Rattle.notation.specs.Stream.{ended, broken}
-use Rattle.notation.specs.Naming as Naming
+use Rattle.notation.specs.Symbols as Symbols
 use Rattle.lexer.specs.Meant.{Lexed}
 use Rattle.walker.specs.declared.walk.Walk.{Walk}
 use Rattle.walker.specs.declared.walk.Step.{Step}
@@ -20,7 +20,7 @@ module _ (text was now : List ℕ) (w : Walk) (s : Step) where
   -- The latest that is open is closed, and the walk stands before the same token.
   pub record Closes : Type 0 where
     pub pops : Pops (w .mode) (w .height) was now (w .token .kind)
-    pub symbol : s .symbol ≡ Naming.kind (closing (entryOf (latest (w .height) was)))
+    pub symbol : s .symbol ≡ Symbols.kind (closing (entryOf (latest (w .height) was)))
     pub walk : s .walk ≡ record { mode = 2; height = w .height - 1; token = w .token }
 
   -- The token is taken, and the walk stands before the next.

@@ -11,7 +11,7 @@ use Rattle.format.specs.Reading.{pick}
 use Rattle.notation.specs.Tree.{Part, Leaf}
 use Rattle.notation.specs.At.{partsOf, classOf}
 use Rattle.notation.specs.Stream.{stands, enters}
-use Rattle.notation.specs.Naming as Naming
+use Rattle.notation.specs.Symbols as Symbols
 use Rattle.lexer.specs.declared.token.Token.{Token}
 use Rattle.lexer.specs.Meant.{leafAt, openerAt}
 use Rattle.walker.specs.Walks.{plainOf, symbolAt, Taken}
@@ -27,13 +27,13 @@ by-test f k n {x} {y} {r} l p q = go (eqb k n) refl
 
 -- ## A symbol's number
 
-class-kind : (ps : List Part) → (ps ≡ [] → ⊥) → Naming.kind (stands (classOf ps)) ≡ 3
+class-kind : (ps : List Part) → (ps ≡ [] → ⊥) → Symbols.kind (stands (classOf ps)) ≡ 3
 unfolding classOf
 class-kind [] n = absurd (n refl)
 class-kind (p ∷ ps) n = refl
 
 module _ (text : List ℕ) (t : Token) where
-  leaf-kind : (t .symbol ≡ 3 → partsOf (drop (t .start) text) ≡ [] → ⊥) → 1 ≤ t .symbol → t .symbol ≤ 9 → Naming.kind (stands (leafAt text t)) ≡ t .symbol
+  leaf-kind : (t .symbol ≡ 3 → partsOf (drop (t .start) text) ≡ [] → ⊥) → 1 ≤ t .symbol → t .symbol ≤ 9 → Symbols.kind (stands (leafAt text t)) ≡ t .symbol
   unfolding leafAt
   leaf-kind P l m =
       let n = t .symbol in
@@ -42,20 +42,20 @@ module _ (text : List ℕ) (t : Token) where
       by-test kind n 8 l sym λ l. omega arith
     where
       kind : Leaf → ℕ
-      kind x = Naming.kind (stands x)
+      kind x = Symbols.kind (stands x)
 
-  opener-kind : 10 ≤ t .symbol → t .symbol ≤ 13 → Naming.kind (enters (openerAt text t)) ≡ t .symbol
+  opener-kind : 10 ≤ t .symbol → t .symbol ≤ 13 → Symbols.kind (enters (openerAt text t)) ≡ t .symbol
   unfolding openerAt
   opener-kind l m =
       let n = t .symbol in
-      by-test (λ o. Naming.kind (enters o)) n 10 l sym λ l. by-test (λ o. Naming.kind (enters o)) n 11 l sym λ l.
-      by-test (λ o. Naming.kind (enters o)) n 12 l sym λ l. omega arith
+      by-test (λ o. Symbols.kind (enters o)) n 10 l sym λ l. by-test (λ o. Symbols.kind (enters o)) n 11 l sym λ l.
+      by-test (λ o. Symbols.kind (enters o)) n 12 l sym λ l. omega arith
 
-pub plain-kind : (n : ℕ) → 14 ≤ n → n ≤ 21 → Naming.kind (plainOf n) ≡ n
+pub plain-kind : (n : ℕ) → 14 ≤ n → n ≤ 21 → Symbols.kind (plainOf n) ≡ n
 unfolding plainOf
 plain-kind n l m =
-    by-test Naming.kind n 14 l sym λ l. by-test Naming.kind n 15 l sym λ l. by-test Naming.kind n 16 l sym λ l. by-test Naming.kind n 17 l sym λ l.
-    by-test Naming.kind n 18 l sym λ l. by-test Naming.kind n 19 l sym λ l. by-test Naming.kind n 20 l sym λ l. omega arith
+    by-test Symbols.kind n 14 l sym λ l. by-test Symbols.kind n 15 l sym λ l. by-test Symbols.kind n 16 l sym λ l. by-test Symbols.kind n 17 l sym λ l.
+    by-test Symbols.kind n 18 l sym λ l. by-test Symbols.kind n 19 l sym λ l. by-test Symbols.kind n 20 l sym λ l. omega arith
 
 -- The symbol of a number, by the number.
 pub symbol-leaf : (text : List ℕ) (n : ℕ) (t : Token) → 1 ≤ n → n ≤ 9 → symbolAt text n t ≡ stands (leafAt text t)
@@ -71,11 +71,11 @@ unfolding symbolAt
 symbol-plain text n t l = rw (ne-eqb n 0 (λ z. omega arith), le-ltb n 10 (omega arith), le-ltb n 14 l)
 
 -- THE NUMBER OF A SYMBOL IS ITS KIND, where a token was taken for it.
-pub symbol-kind : (text : List ℕ) (n : ℕ) (t : Token) → n ≤ 21 → (n ≤ 14 → Taken text n t) → Naming.kind (symbolAt text n t) ≡ n
+pub symbol-kind : (text : List ℕ) (n : ℕ) (t : Token) → n ≤ 21 → (n ≤ 14 → Taken text n t) → Symbols.kind (symbolAt text n t) ≡ n
 unfolding symbolAt
 symbol-kind text n t l T = go (eqb n 0) (ltb n 10) (ltb n 14) refl refl refl
   where
-    go : (a b c : Bool) → eqb n 0 ≡ a → ltb n 10 ≡ b → ltb n 14 ≡ c → Naming.kind (symbolAt text n t) ≡ n
+    go : (a b c : Bool) → eqb n 0 ≡ a → ltb n 10 ≡ b → ltb n 14 ≡ c → Symbols.kind (symbolAt text n t) ≡ n
     go true b c p q r = rw p (sym (eqb-true n 0 p))
     go false true c p q r =
         let z = eqb-false n 0 p in let h = ltb-true n 10 q in let k = T (omega arith) in let e = k .leaf (omega arith) (omega arith) in

@@ -32,7 +32,7 @@ pub record Walks (text : List ℕ) (w : Walk) : Type 0 where
 abbrev pub toGo : List ℕ → Walk → ℕ
 toGo text w = 3 * (length text - w .token .start) + w .height
 
--- The symbol of a number, as `Naming.kind` numbers them: up to 13 it holds what its token says, from 14 on nothing.
+-- The symbol of a number, as `Symbols.kind` numbers them: up to 13 it holds what its token says, from 14 on nothing.
 unfoldable pub plainOf : ℕ → Symbol
 plainOf n =
     pick (eqb n 14) leaves

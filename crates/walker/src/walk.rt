@@ -6,7 +6,7 @@ use lexer::token::token_from;
 ghost use mathlib.Core.Path.{_≡_};
 ghost use Prim.Native.Nat.{_≤_};
 ghost use lib.ListN.{length};
-ghost use Rattle.notation.specs.Naming as Naming;
+ghost use Rattle.notation.specs.Symbols as Symbols;
 ghost use Rattle.notation.specs.Stream.{start, want};
 ghost use Rattle.walker.specs.Acts.{entryOf, closing};
 ghost use Rattle.walker.specs.Steps.{shownAs, Steps};
@@ -20,7 +20,7 @@ pub struct Walk {
     pub token: Token,
 }
 
-// symbol: 0 to 21 as `Naming.kind` numbers them, 30 none, 40 where the walk has ended, 41 where it is broken. token: the one that was taken for it; any, where it
+// symbol: 0 to 21 as `Symbols.kind` numbers them, 30 none, 40 where the walk has ended, 41 where it is broken. token: the one that was taken for it; any, where it
 // closes what is open. walk: what is left of the walk.
 pub struct Step {
     pub symbol: u8,
@@ -37,7 +37,7 @@ pub enum Reading {
 // The number of the symbol that closing an entry puts out.
 fn closed(entry: u8) -> u8
     requires { ⌜ 2 ≤ entry ⌝ }
-    ensures { λ r. ⌜ r ≡ Naming.kind (closing (entryOf entry)) ⌝ }
+    ensures { λ r. ⌜ r ≡ Symbols.kind (closing (entryOf entry)) ⌝ }
 {
     match entry {
         2 => 21,

@@ -23,10 +23,9 @@ use Rattle.notation.specs.Naming as Naming
 use Rattle.notation.specs.Compile.{sorted, place, entry, leafNodes, prefixNodes, suffixNodes, emitAll, compile}
 use Rattle.notation.specs.Compile as Compile
 use Rattle.notation.specs.CompileLaws.{member-right}
-use Rattle.notation.specs.OrderLaws.{sorted-member}
+use Rattle.notation.specs.OrderLaws.{sorted-ascending, sorted-member}
 use Rattle.notation.specs.Patterns.{none-yet, knownBehind, nothingKnown}
 use Rattle.index.specs.Listed.{Ascending}
-use Rattle.index.specs.ListedLaws.{sorted-ascending}
 use Rattle.index.specs.PlaceLaws.{names-length}
 use Rattle.walker.specs.declared.walk.Walk.{Walk}
 use Rattle.walker.specs.declared.walk.Step.{Step}

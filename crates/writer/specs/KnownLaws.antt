@@ -12,8 +12,8 @@ use Rattle.notation.specs.Naming.{member, distinct}
 use Rattle.notation.specs.Compile.{place}
 use Rattle.notation.specs.Patterns.{Known, none-yet, begun, ends-at, isNew, put}
 use Rattle.notation.specs.PatternsLaws.{put-at, found-at}
+use Rattle.notation.specs.OrderLaws.{ascending-distinct}
 use Rattle.index.specs.Listed.{Ascending}
-use Rattle.index.specs.ListedLaws.{below-member}
 use Rattle.writer.specs.Known.{knownOf, Tells, Begins}
 
 known-new : (n : ℕ) → n ≡ 512 → isNew (knownOf n) ≡ true
@@ -45,12 +45,6 @@ node-known n k e = go (eqb n 512) (eqb n 513) refl refl
     go true b x y = let z : none-yet ≡ ends-at k = sym (rw x) ∙ e in absurd (let w : _≡_ {A = ℕ} 0 1 = cc in omega arith)
     go false true x y = let z : begun ≡ ends-at k = sym (rw (x, y)) ∙ e in absurd (let w : _≡_ {A = ℕ} 0 1 = cc in omega arith)
     go false false x y = let z : ends-at n ≡ ends-at k = sym (rw (x, y)) ∙ e in cc
-
--- Names in byte order are distinct.
-ascending-distinct : (ns : List Name) → Ascending ns → distinct ns ≡ true
-unfolding distinct
-ascending-distinct [] a = refl
-ascending-distinct (n ∷ ns) a = rw (below-member n ns (a .0)) (ascending-distinct ns (a .1))
 
 map-set : {A B : Type 0} (f : A → B) (l : List A) (i : ℕ) (v : A) → map f (set l i v) ≡ set (map f l) i (f v)
 map-set f [] i v = refl

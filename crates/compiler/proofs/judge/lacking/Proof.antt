@@ -1,7 +1,8 @@
 -- `lacking` meets its promise: what is gathered decides what is undefined. Assumes nothing.
 use mathlib.Core.Path.{ap, _∙_}
 use borrow.Author.Needs.{needs}
-use Rattle.notation.specs.Places.{headOf, namePlace}
+use Rattle.notation.specs.Uses.{headOf}
+use Rattle.notation.specs.Places.{namePlace}
 use Rattle.notation.specs.Lexer.{lexemes}
 use Rattle.naming.specs.Found.{found}
 use Rattle.naming.specs.GatheredLaws.{gathered-ascending}

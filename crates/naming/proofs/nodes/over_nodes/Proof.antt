@@ -91,7 +91,7 @@ returns-2 c ps r =
     ∙ past-is r 512 (namePlace (text s))
 
 weight-of-requires : tie.Need-weight-of-requires Inv-loop μ-loop
-weight-of-requires c κs = let s = c .before in spelt (L s) (one s)
+weight-of-requires c κs = let s = c .before in (spelt (L s) (one s), L s .parted)
 
 loop-less : tie.Need-loop-less Inv-loop μ-loop
 loop-less c = omega (arith, on (c .before .before .before))

@@ -148,7 +148,7 @@ settle-requires-2 c κs =
     (filling-open (ns l) (roots l) (all l) (head-is (text l) (t s) (c .before .if2 .taken)) F)
 
 weight-of-requires : tie.Need-weight-of-requires Inv-loop μ-loop
-weight-of-requires c κs = let s = c .before in spelt (L s) (one s)
+weight-of-requires c κs = let s = c .before in (spelt (L s) (one s), L s .parted)
 
 loop-less : tie.Need-loop-less Inv-loop μ-loop
 loop-less c = omega (arith, on (c .before .before .before .before .before))

@@ -5,7 +5,7 @@ use mathlib.Core.Path.{_≡_, sym, _∙_}
 use mathlib.Core.Logic.{⊎-elim}
 use mathlib.Core.List.{List}
 use native.Mathlib.Omega.{arith}
-use borrow.Author.Needs.{needs}
+use lib.ListN.{length}
 use borrow.Author.Tests.{not-true, not-false}
 use Rattle.walker.specs.declared.walk.Step.{Step}
 use Rattle.walker.specs.Walks.{toGo, Nexts}
@@ -14,10 +14,10 @@ use Rattle.patterns.proofs.alike.alike.Statement.{statement}
 use Rattle.patterns.proofs.alike.alike.Tie as tie
 
 abbrev Inv-loop : tie.InvT-loop
-Inv-loop text p q left₀ right₀ v₀ w₀ defs₀ left right v w defs = Beside text p q left right v w defs
+Inv-loop text left₀ right₀ p q v₀ w₀ defs₀ left right v w defs = Beside text p q left right v w defs
 
 abbrev μ-loop : tie.MeasureT-loop
-μ-loop text p q left₀ right₀ v₀ w₀ defs₀ left right v w defs = toGo text v
+μ-loop text left₀ right₀ p q v₀ w₀ defs₀ left right v w defs = toGo text v
 
 inside-requires : tie.Need-inside-requires Inv-loop μ-loop
 inside-requires c κs = tt
@@ -27,15 +27,15 @@ inside-requires-2 c κs = tt
 
 loop-holds : tie.Need-loop-holds Inv-loop μ-loop
 loop-holds c =
-    beside-start _ _ (c .before .before .before .pre) (search needs) (search needs) (c .before .inside .ensures) (c .inside2 .ensures)
+    let p = c .before .before .before .pre in beside-start _ _ (p .2) (p .0) (p .1) (c .before .inside .ensures) (c .inside2 .ensures)
 
 next-requires : tie.Need-next-requires Inv-loop μ-loop
 next-requires c κs =
-    let i = c .before .loop .inv in (i .left-long, c .before .before .before .before .before .pre, i .first)
+    let i = c .before .loop .inv in (i .left-long, c .before .before .before .before .before .pre .2, i .first)
 
 next-requires-2 : tie.Need-next-requires-2 Inv-loop μ-loop
 next-requires-2 c κs =
-    let l = c .before .before .before in (l .loop .inv .right-long, l .before .before .before .before .pre, l .loop .inv .second)
+    let l = c .before .before .before in (l .loop .inv .right-long, l .before .before .before .before .pre .2, l .loop .inv .second)
 
 -- Both have gone a step.
 module _ (c : tie.After-next2 Inv-loop μ-loop) where
@@ -60,8 +60,15 @@ module _ (c : tie.After-next2 Inv-loop μ-loop) where
   abbrev B : Nexts text (l .loop .right) (c .next2 .last .1 .0) (l .loop .w) b
   B = c .next2 .ensures
 
+  left-long : length (c .before .before .next .last .1 .0) ≡ 65536
+  left-long = A .long ∙ l .loop .inv .left-long
+
+  right-long : length (c .next2 .last .1 .0) ≡ 65536
+  right-long = B .long ∙ l .loop .inv .right-long
+
 returns : tie.Need-returns Inv-loop μ-loop
-returns c = let s = c .before .before in sym (l s .loop .inv .streams) ∙ numbers-differ (A s) (B s) (c .if1 .taken)
+returns c =
+    let s = c .before .before in (sym (l s .loop .inv .streams) ∙ numbers-differ (A s) (B s) (c .if1 .taken), left-long s, right-long s)
 
 returns-2 : tie.Need-returns-2 Inv-loop μ-loop
 returns-2 c =
@@ -69,10 +76,12 @@ returns-2 c =
     let e = c .if2 .taken in
     let f = c .before .if1 .left in
     let h = both-broken (A s) (B s) e (omega arith) in
-    (sym (l s .loop .inv .streams) ∙ h .0, omega (arith, h .1, l s .loop .inv .count))
+    ((sym (l s .loop .inv .streams) ∙ h .0, omega (arith, h .1, l s .loop .inv .count)), left-long s, right-long s)
 
 returns-3 : tie.Need-returns-3 Inv-loop μ-loop
-returns-3 c = let s = c .before .before .before .before in sym (l s .loop .inv .streams) ∙ both-ended (A s) (B s) (c .if3 .taken)
+returns-3 c =
+    let s = c .before .before .before .before in
+    (sym (l s .loop .inv .streams) ∙ both-ended (A s) (B s) (c .if3 .taken), left-long s, right-long s)
 
 -- Both have put out a symbol, of one number.
 module _ (c : tie.Else3 Inv-loop μ-loop) where
@@ -90,9 +99,12 @@ same-contents-requires c κs = (shown (A (s c)) (small c), this-shown (A (s c)) 
 
 returns-4 : tie.Need-returns-4 Inv-loop μ-loop
 returns-4 c =
-    let e = c .before .before in
-    sym (l (s e) .loop .inv .streams)
-    ∙ contents-differ (A (s e)) (B (s e)) (small e) (one-number e) (sym (c .before .same-contents .ensures) ∙ not-true _ (c .if4 .taken))
+    let e = c .before .before in (
+      sym (l (s e) .loop .inv .streams)
+          ∙ contents-differ (A (s e)) (B (s e)) (small e) (one-number e) (sym (c .before .same-contents .ensures) ∙ not-true _ (c .if4 .taken)),
+      left-long (s e),
+      right-long (s e),
+    )
 
 add-defs : tie.Need-add-defs Inv-loop μ-loop
 add-defs c = omega (arith, l (s (c .before .before .before)) .loop .inv .few)

@@ -7,9 +7,10 @@ use native.Mathlib.Omega.{arith}
 use borrow.Author.Needs.{needs}
 use Rattle.chars.specs.Meant.{QuotedAt, ClassAt}
 use Rattle.lexer.specs.declared.token.Token.{Token}
+use Rattle.naming.proofs.StepLaws.{spelt}
+use Rattle.naming.proofs.LeafLaws.{quoted-here, class-here}
 use Rattle.patterns.specs.Compared.{Shown}
 use Rattle.patterns.proofs.ContentsLaws.{same-plain, same-any, same-texts, same-classes, same-switches, same-names}
-use Rattle.patterns.proofs.LeafLaws.{quoted-here, class-here}
 use Rattle.patterns.proofs.contents.same_contents.Statement.{statement}
 use Rattle.patterns.proofs.contents.same_contents.Tie as tie
 
@@ -18,12 +19,12 @@ module _ {text : List ℕ} {n : ℕ} {t : Token} (S : Shown text n t) where
   text-at : n ≡ 2 → QuotedAt text (t .start)
   text-at e =
       let T = S .taken (omega arith) in
-      let k = T .leaf (omega arith) (omega arith) in quoted-here (T .lexed) (k .0) (k .1 ∙ e)
+      let k = T .leaf (omega arith) (omega arith) in quoted-here text t (spelt (T .lexed) (rw (k .0))) (k .0) (k .1 ∙ e)
 
   class-at : n ≡ 3 → ClassAt text (t .start)
   class-at e =
       let T = S .taken (omega arith) in
-      let k = T .leaf (omega arith) (omega arith) in class-here (T .lexed) (k .0) (k .1 ∙ e)
+      let k = T .leaf (omega arith) (omega arith) in class-here text t (spelt (T .lexed) (rw (k .0))) (k .0) (k .1 ∙ e) (T .lexed .parted)
 
 returns : tie.Need-returns
 returns c =

@@ -15,13 +15,14 @@ use Rattle.patterns.proofs.one.one_pattern.Statement.{statement}
 use Rattle.patterns.proofs.one.one_pattern.Tie as tie
 
 abbrev Inv-loop : tie.InvT-loop
-Inv-loop text firsts₀ count₀ over₀ at₀ firsts count over at = (at ≤ length text) × Passes text firsts count over (defsOf (drop at text))
+Inv-loop text latest₀ left₀ right₀ count₀ over₀ at₀ latest left right count over at =
+    (at ≤ length text) × Passes text latest count over (defsOf (drop at text)) × (length left ≡ 65536) × (length right ≡ 65536)
 
 abbrev μ-loop : tie.MeasureT-loop
-μ-loop text firsts₀ count₀ over₀ at₀ firsts count over at = length text - at
+μ-loop text latest₀ left₀ right₀ count₀ over₀ at₀ latest left right count over at = length text - at
 
 loop-holds : tie.Need-loop-holds Inv-loop μ-loop
-loop-holds c = (omega arith, passes-start (c .before .args .text .now) _ (search needs))
+loop-holds c = (omega arith, passes-start (c .before .args .text .now) _ (search needs), search needs, search needs)
 
 token-from-requires : tie.Need-token-from-requires Inv-loop μ-loop
 token-from-requires c κs = tt
@@ -43,8 +44,8 @@ module _ (c : tie.After-token-from Inv-loop μ-loop) where
   lexed : Lexed text (here .loop .at) t
   lexed = c .token-from .ensures
 
-  passes : {rest : List Lexeme} → defsOf (drop (here .loop .at) text) ≡ rest → Passes text (here .loop .firsts) (here .loop .count) (here .loop .over) rest
-  passes e = subst (Passes text (here .loop .firsts) (here .loop .count) (here .loop .over)) e (here .loop .inv .1)
+  passes : {rest : List Lexeme} → defsOf (drop (here .loop .at) text) ≡ rest → Passes text (here .loop .latest) (here .loop .count) (here .loop .over) rest
+  passes e = subst (Passes text (here .loop .latest) (here .loop .count) (here .loop .over)) e (here .loop .inv .1)
 
 returns : tie.Need-returns Inv-loop μ-loop
 returns c = let s = c .before .before in passes-end (passes s (end-left (lexed s) (c .if1 .taken)))
@@ -79,8 +80,11 @@ slice-aggregate-hold c = sym (here (s (c .before .before .before)) .loop .inv .1
 
 hold-requires : tie.Need-hold-requires Inv-loop μ-loop
 hold-requires c κs =
-    let e = c .before .before .before in
-    let d = sym (c .before .before .is-def .ensures) ∙ c .before .if3 .taken in (
+    let e = c .before .before .before .before .before in
+    let i = here (s e) .loop .inv in
+    let d = sym (c .before .before .before .before .is-def .ensures) ∙ c .before .before .before .if3 .taken in (
+      i .2,
+      i .3,
       start (s e) .pre,
       record { from = here (s e) .loop .at; lexed = lexed (s e); def = both-numbers (t (s e)) d },
       passes (s e) (def-left (lexed (s e)) (no-end e) (no-stop e) d),
@@ -91,21 +95,24 @@ enum-told c = search needs
 
 returns-3 : tie.Need-returns-3 Inv-loop μ-loop
 returns-3 c =
-    let e = c .before .before .before .before .before .before .before in
+    let e = c .before .before .before .before .before .before .before .before .before in
     at-fault (text (s e)) (t (s e)) (lexed (s e) .inside)
-    (subst (Holds (text (s e)) (c .before .before .before .hold .last .1 .0) (t (s e))) (c .enum-told .given .1) (c .before .before .before .hold .ensures))
+    (subst (Holds (text (s e)) (c .before .before .before .hold .last .1 .0) (t (s e))) (c .enum-told .given .1) (c .before .before .before .hold .ensures .0))
 
 enum-known-tables : tie.Need-enum-known-tables Inv-loop μ-loop
 enum-known-tables c = search needs
 
 loop-less : tie.Need-loop-less Inv-loop μ-loop
-loop-less c = less (c .before .before .before .before .before .before .before .before)
+loop-less c = less (c .before .before .before .before .before .before .before .before .before .before)
 
 loop-again : tie.Need-loop-again Inv-loop μ-loop
 loop-again c =
-    let e = c .before .before .before .before .before .before .before .before in (
+    let e = c .before .before .before .before .before .before .before .before .before .before in
+    let h = c .before .before .before .before .hold in (
       within e,
-      subst (Holds (text (s e)) (c .before .before .before .before .hold .last .1 .0) (t (s e))) (c .before .tables .given .1) (c .before .before .before .before .hold .ensures),
+      subst (Holds (text (s e)) (h .last .1 .0) (t (s e))) (c .before .tables .given .1) (h .ensures .0),
+      h .ensures .1,
+      h .ensures .2,
     )
 
 loop-less-2 : tie.Need-loop-less-2 Inv-loop μ-loop
@@ -114,7 +121,8 @@ loop-less-2 c = less (c .before .before)
 loop-again-2 : tie.Need-loop-again-2 Inv-loop μ-loop
 loop-again-2 c =
     let e = c .before .before in
-    (within e, passes (s e) (other-left (lexed (s e)) (no-end e) (no-stop e) (sym (c .before .is-def .ensures) ∙ c .if3 .left)))
+    let i = here (s e) .loop .inv in
+    (within e, passes (s e) (other-left (lexed (s e)) (no-end e) (no-stop e) (sym (c .before .is-def .ensures) ∙ c .if3 .left)), i .2, i .3)
 
 pub one-pattern-spec : {M : Type 1} → statement M
 one-pattern-spec =

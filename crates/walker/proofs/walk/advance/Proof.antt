@@ -2,7 +2,7 @@
 use mathlib.Core.Path.{refl, ap, _∙_}
 use native.Mathlib.Omega.{arith}
 use borrow.Author.Needs.{needs}
-use Rattle.notation.specs.Naming as Naming
+use Rattle.notation.specs.Symbols as Symbols
 use Rattle.walker.specs.Acts.{entryOf, closing}
 use Rattle.walker.specs.Steps.{closes, takes, ends, breaks}
 use Rattle.walker.proofs.WalkLaws.{popped, shifted, over, broke, popped-byte}
@@ -44,7 +44,7 @@ returns : tie.Need-returns
 returns c =
     let o = c .before .before .before .before .one-act in let P = popped (o .result) (c .before .before .before .match .keys1) (o .ensures) in
     record {
-      acted = closes (record { pops = P; symbol = c .closed .ensures ∙ ap (λ b. Naming.kind (closing (entryOf b))) (popped-byte P); walk = refl });
+      acted = closes (record { pops = P; symbol = c .closed .ensures ∙ ap (λ b. Symbols.kind (closing (entryOf b))) (popped-byte P); walk = refl });
       long = o .ensures .long;
     }
 

@@ -1,69 +1,20 @@
 -- How many bytes a token takes: two for each name that it defines, and one for each two nodes that it weighs. So a text names at most half as
 -- many things as it has bytes, and weighs at most twice as much.
-use Prim.Native.Nat.{ℕ, zero, suc, _+_, _*_, _≤_, _<_}
+use Prim.Native.Nat.{ℕ, zero, suc, _+_, _*_, _≤_}
 use mathlib.Core.Path.{_≡_, refl}
-use mathlib.Core.Bool.{Bool}
 use mathlib.Core.List.{List, [], _∷_}
 use native.Mathlib.Omega.{arith}
 use lib.ListN.{length, length-append}
-use Rattle.notation.specs.Tree.{Name, Part}
+use Rattle.notation.specs.Tree.{Name}
 use Rattle.notation.specs.Token.{Token, bad, bare}
-use Rattle.notation.specs.Lexical
-use Rattle.notation.specs.Lexical.{Line, over, ends, goes, Block, shuts, starred, goes-on, Gap, nothing, white, line, comment, Named, Char, escaped, hex, Chars, done, char, Parts, parts-end, single, range, Then, behind, Sign, Truth, negated, plain, plain-end, a-def, a-block, a-local, Spelled, a-head, a-call, a-dot, a-text, a-class, a-query, an-if, an-opener, an-on, a-greater, a-left, a-right, a-slash, an-and, a-not, an-option, a-star, a-plus}
+use Rattle.notation.specs.Lexical.{Gap, a-def, a-block, a-local, Spelled, a-head, a-call, a-dot, a-text, a-class, a-query, an-if, an-opener, an-on, a-greater, a-left, a-right, a-slash, an-and, a-not, an-option, a-star, a-plus}
 use Rattle.notation.specs.LexicalText.{Yields, yields}
 use Rattle.notation.specs.LexicalGap.{Gives, gives, gap-sound}
 use Rattle.notation.specs.LexicalToken.{token-sound}
+use Rattle.notation.specs.ShorterLaws.{gap-shorter, named-shorter, chars-shorter, parts-shorter, then-named, then-sign, then-truth}
 use Rattle.notation.specs.Lexer.{Piece, piece, no, Skipped, past, unclosed, gap, token, lexed, lexemes, tokens}
 use Rattle.notation.specs.Counts.{weightOf, weightIn}
-use Rattle.notation.specs.Uses.{perToken}
-use Rattle.notation.specs.Places.{headOf, defOf, switchOf}
-
--- ## Each piece of a token
-
-line-shorter : {s r : List ℕ} → Line s r → length r ≤ length s
-line-shorter over = omega arith
-line-shorter ends = omega arith
-line-shorter (goes n l) = let h = line-shorter l in omega arith
-
-block-shorter : {s r : List ℕ} → Block s r → length r ≤ length s
-block-shorter shuts = omega arith
-block-shorter (starred n k) = let h = block-shorter k in omega arith
-block-shorter (goes-on n k) = let h = block-shorter k in omega arith
-
-gap-shorter : {s r : List ℕ} → Gap s r → length r ≤ length s
-gap-shorter (nothing d) = omega arith
-gap-shorter (white e g) = let h = gap-shorter g in omega arith
-gap-shorter (line l g) = let h = gap-shorter g in let k = line-shorter l in omega arith
-gap-shorter (comment l g) = let h = gap-shorter g in let k = block-shorter l in omega arith
-
-named-shorter : {n : Name} {s r : List ℕ} → Named n s r → length r < length s
-named-shorter (Lexical.name {n = n} {r = r} e N E) = omega (arith, length-append n r)
-
-char-shorter : {stop c : ℕ} {s r : List ℕ} → Char stop c s r → length r < length s
-char-shorter (Lexical.itself n m e) = omega arith
-char-shorter (escaped x) = omega arith
-char-shorter (hex x y) = omega arith
-
-chars-shorter : {stop : ℕ} {x s r : List ℕ} → Chars stop x s r → length r < length s
-chars-shorter done = omega arith
-chars-shorter (char C D) = let h = char-shorter C in let k = chars-shorter D in omega arith
-
--- A class has a byte for each of its parts, and its `]`.
-parts-shorter : {ps : List Part} {s r : List ℕ} → Parts ps s r → length ps + length r < length s
-parts-shorter parts-end = omega arith
-parts-shorter (single C n D) = let h = char-shorter C in let k = parts-shorter D in omega arith
-parts-shorter (range C E l D) = let h = char-shorter C in let i = char-shorter E in let k = parts-shorter D in omega arith
-
-then-named : {n : Name} {s r : List ℕ} → Then (Named n) s r → length r < length s
-then-named (behind g N) = let h = gap-shorter g in let k = named-shorter N in omega arith
-
-then-sign : {c : ℕ} {s r : List ℕ} → Then (Sign c) s r → length r < length s
-then-sign (behind g Lexical.sign) = let h = gap-shorter g in omega arith
-
-then-truth : {w : Bool} {s r : List ℕ} → Then (Truth w) s r → length r ≤ length s
-then-truth (behind g negated) = let h = gap-shorter g in omega arith
-then-truth (behind g (plain n)) = gap-shorter g
-then-truth (behind g plain-end) = gap-shorter g
+use Rattle.notation.specs.Uses.{perToken, headOf, defOf, switchOf}
 
 -- ## Each token
 

@@ -1,19 +1,22 @@
 -- The bodies of a text's defs are read as its definitions, one by one; so two definitions are alike if two walks put out the same.
 use Prim.Native.Nat.{ℕ, zero, suc, _+_, _<_}
-use mathlib.Core.Path.{_≡_, refl, ap, ap₂, _∙_, subst}
+use mathlib.Core.Path.{_≡_, refl, ap, ap₂, sym, _∙_, subst}
 use mathlib.Core.Bool.{false}
 use mathlib.Core.List.{List, [], _∷_, _++_, map, append-assoc, append-nil}
 use native.Mathlib.Omega.{arith}
 use lib.ListN.{length, getD, length-append}
 use Rattle.format.specs.Reading.{pick}
 use Rattle.notation.specs.Tree.{Opener, def, block, local, on, Tree, leaf, prefix, suffix, binary, within, Production}
 use Rattle.notation.specs.Token.{Token, closes, right, slash, after}
 use Rattle.notation.specs.Notation.{Level, Reads, alternatives, one-alternative, items, one-item, prefixed, no-prefix, suffixed, no-suffix, itself, brackets, operator, Productions, last, more}
 use Rattle.notation.specs.Stream.{Symbol, leaves, front, back, joins, post, Stream, _▸_, broken, _▸▸_, close, inAngle, want, stream}
 use Rattle.notation.specs.StreamLaws.{on-on, complete}
-use Rattle.notation.specs.Naming.{perOperator, Definition, definitionIn, definitions, sameSymbol, sameSymbols, alike}
+use Rattle.notation.specs.Naming.{perOperator, Definition, definitionIn, definitions, alike}
+use Rattle.notation.specs.Symbols.{sameSymbol, sameSymbols}
+use Rattle.notation.specs.AlikeLaws.{alike-symbols}
 use Rattle.notation.specs.Uses.{definedBy}
-use Rattle.notation.specs.Bodies.{Body, bodiesIn, noBody, noDefinition, sameStreams, defsOn}
+use Rattle.notation.specs.OnePattern.{noDefinition}
+use Rattle.patterns.specs.Bodies.{Body, bodiesIn, noBody, sameStreams, defsOn}
 
 -- A body is that of a definition: of the same table, and a walk from it puts out the pattern.
 pub record Of (b : Body) (d : Definition) : Type 0 where
@@ -79,7 +82,7 @@ streams-same (x ∷ xs) [] = refl
 streams-same (x ∷ xs) (y ∷ ys) = ap (λ b. pick (sameSymbol x y) b false) (streams-same xs ys)
 
 pub streams-alike : (a b : Tree) → sameStreams (post a ▸▸ broken) (post b ▸▸ broken) ≡ alike a b
-streams-alike a b = streams-same (post a) (post b)
+streams-alike a b = streams-same (post a) (post b) ∙ sym (alike-symbols a b)
 
 -- So two bodies that put out the same are of definitions that are alike.
 pub bodies-alike :

@@ -5,11 +5,11 @@ use mathlib.Core.Bool.{Bool, true, false}
 use mathlib.Core.List.{List, [], _∷_, _++_, map}
 use lib.ListN.{length}
 use Rattle.format.specs.Reading.{pick}
-use Rattle.notation.specs.Tree.{Name, leaf, any}
+use Rattle.notation.specs.Tree.{Name}
 use Rattle.notation.specs.Token.{Token}
 use Rattle.notation.specs.Stream.{Symbol, named, stands, enters, leaves, front, back, joins, Stream, _▸_, ended, broken}
-use Rattle.notation.specs.Naming.{Definition, sameSymbol}
+use Rattle.notation.specs.Symbols.{sameSymbol}
 use Rattle.notation.specs.Uses.{says, nothing, definedBy}
 
 -- A def's table and the tokens behind its opener, to the end of the text.
 pub record Body : Type 0 where
@@ -20,12 +20,9 @@ unfoldable pub bodiesIn : List Token → List Body
 bodiesIn [] = []
 bodiesIn (t ∷ ts) = map (λ n. record { table = n; ahead = ts }) (says nothing nothing definedBy t) ++ bodiesIn ts
 
--- What stands for them where there is none.
+-- What stands for one where there is none.
 abbrev pub noBody : Body
 noBody = record { table = []; ahead = [] }
-
-abbrev pub noDefinition : Definition
-noDefinition = record { table = []; pattern = leaf any }
 
 -- The symbols are the same one by one, and both streams break at once.
 unfoldable pub sameStreams : Stream → Stream → Bool
