@@ -14,7 +14,7 @@ use Rattle.notation.specs.LexicalToken.{same-true}
 use Rattle.notation.specs.Naming.{member, tables, conditions}
 use Rattle.notation.specs.Compile.{order, lower, equal, place, sorted, entry, patternsAll, compile}
 use Rattle.notation.specs.CompileLaws.{member-sorted, productionNumber, tableNumber, conditionNumber}
-use Rattle.notation.specs.OrderLaws.{order-refl, order-lower, Ascending, sorted-ascending}
+use Rattle.notation.specs.OrderLaws.{order-same, lower-lower, Below, Ascending, sorted-ascending}
 use Rattle.notation.specs.SoundLaws.{total, emit-all-length}
 
 -- ## Names of a list
@@ -31,6 +31,16 @@ one-number t u (n ∷ ns) m k e = go (same t n) (same u n) refl refl (λ i j h. 
     go false true p q r = let z : suc (place t ns) ≡ 0 = rw (p, q) at e in absurd (omega arith)
     go false false p q r = let z : suc (place t ns) ≡ suc (place u ns) = rw (p, q) at e in r (rw p at m) (rw q at k) (omega arith)
 
+-- A name below all of a list is lower than each of them.
+below-each : (n t : Name) (ns : List Name) → Below n ns → member t ns ≡ true → order n t ≡ lower
+unfolding member
+below-each n t [] b m = no-way (cc)
+below-each n t (k ∷ ks) b m = go (same t k) refl (λ h. below-each n t ks (b .1) h)
+  where
+    go : (e : Bool) → same t k ≡ e → (member t ks ≡ true → order n t ≡ lower) → order n t ≡ lower
+    go true q r = rw (same-true t k q) (b .0)
+    go false q r = r (rw q at m)
+
 -- In a list that goes up the lower name has the lower number.
 pub lower-first :
     (t u : Name) (ns : List Name) → Ascending ns → member t ns ≡ true → member u ns ≡ true → order t u ≡ lower → place t ns < place u ns
@@ -41,11 +51,11 @@ lower-first t u (n ∷ ns) a m k o = go (same t n) (same u n) refl refl (λ i j.
     go : (b c : Bool) → same t n ≡ b → same u n ≡ c → (member t ns ≡ true → member u ns ≡ true → place t ns < place u ns)
         → place t (n ∷ ns) < place u (n ∷ ns)
     go true true p q r =
-        let z : equal ≡ lower = sym (order-refl n) ∙ ap (λ x. order x n) (sym (same-true t n p)) ∙ ap (order t) (sym (same-true u n q)) ∙ o in no-way (cc)
+        let z : equal ≡ lower = sym (order-same n) ∙ ap (λ x. order x n) (sym (same-true t n p)) ∙ ap (order t) (sym (same-true u n q)) ∙ o in no-way (cc)
     go true false p q r = rw (p, q) (omega arith)
     go false true p q r =
-        let later : order n t ≡ lower = a .0 t (rw p at m) in
-        let z : equal ≡ lower = sym (order-refl t) ∙ order-lower t n t (ap (order t) (sym (same-true u n q)) ∙ o) later in
+        let later : order n t ≡ lower = below-each n t ns (a .0) (rw p at m) in
+        let z : equal ≡ lower = sym (order-same t) ∙ lower-lower t n t (ap (order t) (sym (same-true u n q)) ∙ o) later in
         no-way (cc)
     go false false p q r = let z = r (rw p at m) (rw q at k) in rw (p, q) (omega arith)
 
