@@ -1,7 +1,7 @@
 # On a machine that has the Rattle kit:
 #   make run      the story of the README, on a sample bulletin
 #   make test     everything that is checked: the layout, the programs, the library against an independent one, and the proof of every crate
-#   make bench    how fast it is, and where its instructions go: two pages and two plots in docs/bench/
+#   make bench    how fast it is, and where its instructions go: three pages and two plots in docs/bench/
 .PHONY: run test bench
 
 run:
@@ -23,4 +23,5 @@ test:
 
 bench:
 	scripts/bench
+	scripts/bench-compile
 	scripts/profile

@@ -24,13 +24,13 @@ fn between(random: &mut Random, low: usize, high: usize) -> usize {
 }
 
 /// None begins with `z`, which the damage to a typedef text relies on.
-const WORDS: [&str; 32] = [
+pub(crate) const WORDS: [&str; 32] = [
     "anchor", "berth", "buoy", "cargo", "channel", "crane", "crew", "current", "deck", "draft", "dredger", "fender", "ferry", "gale", "harbour",
     "hatch", "hull", "keel", "lock", "mast", "mooring", "pier", "pilot", "quay", "radar", "rope", "shoal", "tide", "tug", "vessel", "watch", "wharf",
 ];
 
 /// Words with a blank between them, exactly `count` bytes, without a blank at either end.
-fn words(random: &mut Random, count: usize) -> String {
+pub(crate) fn words(random: &mut Random, count: usize) -> String {
     let mut text = String::new();
     while text.len() < count {
         text.push_str(random.pick(&WORDS));

@@ -43,7 +43,9 @@ pub mod random;
 pub mod reference;
 pub mod samples;
 pub mod tally;
+pub mod targets;
 pub mod texts;
+pub mod timing;
 pub mod visits;
 pub mod wrong;
 

@@ -110,7 +110,7 @@ fn marks() -> Vec<Extreme> {
 }
 
 /// The name of a number: no two are equal, and all are short.
-fn short_name(mut number: usize) -> String {
+pub(super) fn short_name(mut number: usize) -> String {
     const FIRST: &[u8] = b"ABCDEFGHIJKLMNOPQRSTUVWXYZabcdefghijklmnopqrstuvwxyz_";
     const NEXT: &[u8] = b"ABCDEFGHIJKLMNOPQRSTUVWXYZabcdefghijklmnopqrstuvwxyz_0123456789";
     let mut name = String::from(char::from(FIRST[number % FIRST.len()]));

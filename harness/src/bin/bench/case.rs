@@ -3,10 +3,10 @@
 use std::fs;
 
 use yarnspire::implementations::Implementation;
+use yarnspire::timing::time_batch;
 use yarnspire::{reference, samples, Limits, Numbers};
 
 use crate::lua::Lua;
-use crate::timing::time_batch;
 
 /// Where LPeg reads the inputs.
 pub const INPUTS: &str = "target/bench/inputs";

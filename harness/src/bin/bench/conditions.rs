@@ -1,18 +1,9 @@
 //! What was measured, how, on what, and what to make of it.
 
-use std::fs;
-
 use yarnspire::facts::fact;
 use yarnspire::implementations::Implementation::Before;
+use yarnspire::timing::{BATCH, ROUNDS};
 use yarnspire::Limits;
-
-use crate::timing::{BATCH, ROUNDS};
-
-/// How busy the machine is.
-pub fn load_average() -> String {
-    let line = fs::read_to_string("/proc/loadavg").unwrap_or_default();
-    line.split(' ').next().unwrap_or("unknown").to_string()
-}
 
 /// What the library is held against as it was.
 fn before() -> String {

@@ -15,9 +15,9 @@ mod timing;
 use std::fs;
 
 use case::{Case, INPUTS};
-use conditions::load_average;
 use lua::Lua;
 use timing::{time_in_turn, Measured};
+use yarnspire::facts::load_average;
 use yarnspire::inputs::{typedef_holding, Kind, KINDS};
 
 const SIZES: [usize; 3] = [2_000, 8_000, 30_000];

@@ -1,9 +1,8 @@
 //! What is aimed at, and whether this run keeps it.
 
-use std::fmt::Write;
-
 use yarnspire::implementations::Implementation::{Before, Library, Lpeg, Plain};
 use yarnspire::inputs::KINDS;
+use yarnspire::targets::{section, Named, Target};
 
 use crate::held::few_and_many;
 use crate::timing::Measured;
@@ -16,48 +15,9 @@ const GROWTH: f64 = 1.2;
 /// How long a call on an empty input may take, in microseconds.
 const ON_NOTHING: f64 = 1.0;
 
-/// A value by its name.
-type Named = (&'static str, f64);
-
-/// What is aimed at, what was measured, and what keeps each value within its bound, if there is one.
-struct Target {
-    says: String,
-    measured: Vec<Named>,
-    within: Option<Box<dyn Fn(f64) -> bool>>,
-}
-
-impl Target {
-    fn new(says: String, measured: Vec<Named>, within: impl Fn(f64) -> bool + 'static) -> Target {
-        Target { says, measured, within: Some(Box::new(within)) }
-    }
-
-    /// A figure to know, without a bound.
-    fn unbounded(says: String, measured: Vec<Named>) -> Target {
-        Target { says, measured, within: None }
-    }
-
-    fn holds(&self) -> String {
-        let within = match &self.within {
-            Some(within) => within,
-            None => return "no bound".to_string(),
-        };
-        let outside: Vec<&str> = self.measured.iter().filter(|(_, value)| !within(*value)).map(|(name, _)| *name).collect();
-        match outside.is_empty() {
-            true => "yes".to_string(),
-            false => format!("**no**: {}", outside.join(", ")),
-        }
-    }
-}
-
 /// The section on targets.
 pub fn targets(results: &Results) -> String {
-    let mut text = String::from("## Targets\n\n| target | measured | holds |\n|---|---|---|\n");
-    for target in all(results) {
-        let measured: Vec<String> = target.measured.iter().map(|(name, value)| format!("{name} {value:.3}")).collect();
-        writeln!(text, "| {} | {} | {} |", target.says, measured.join(", "), target.holds()).expect("text grows");
-    }
-    text.push('\n');
-    text
+    section(&all(results))
 }
 
 fn all(results: &Results) -> [Target; 5] {

@@ -1,40 +1,15 @@
 //! Times in turn: one batch of each implementation on each case, and again.
 
-use std::os::raw::c_long;
-
 use yarnspire::implementations::Implementation;
+use yarnspire::timing::{calls_in_batch, Times, ROUNDS};
 
 use crate::case::{slot_buffer, Case};
 use crate::lua::Lua;
 
-/// Batches of each implementation on each input.
-pub const ROUNDS: usize = 25;
-/// How long a batch takes at least, in nanoseconds, unless a single call takes longer.
-pub const BATCH: f64 = 10e6;
-
-extern "C" {
-    /// The processor time of this process, in microseconds: the C library's, which Lua's `os.clock` reads too.
-    fn clock() -> c_long;
-}
-
-fn processor_time() -> f64 {
-    // Safety: it takes nothing and gives a number.
-    unsafe { clock() as f64 * 1e3 }
-}
-
-/// The nanoseconds that `count` calls take.
-pub fn time_batch(count: usize, mut call: impl FnMut()) -> f64 {
-    let begin = processor_time();
-    for _ in 0..count {
-        call();
-    }
-    processor_time() - begin
-}
-
-/// A case with its times: for each implementation the nanoseconds a call, one number for each batch.
+/// A case with its times, for each implementation.
 pub struct Measured {
     pub case: Case,
-    times: [Vec<f64>; Implementation::ALL.len()],
+    times: [Times; Implementation::ALL.len()],
 }
 
 impl Measured {
@@ -43,12 +18,11 @@ impl Measured {
     }
 
     pub fn best(&self, implementation: Implementation) -> f64 {
-        self.times[implementation as usize][0]
+        self.times[implementation as usize].best()
     }
 
     pub fn median(&self, implementation: Implementation) -> f64 {
-        let times = &self.times[implementation as usize];
-        times[times.len() / 2]
+        self.times[implementation as usize].median()
     }
 
     /// How many times as long one takes as another.
@@ -79,20 +53,5 @@ pub fn time_in_turn(mut cases: Vec<&mut Measured>, lua: &mut Lua) {
                 row.times[one as usize].push(time / count as f64);
             }
         }
-    }
-    for times in cases.iter_mut().flat_map(|row| &mut row.times) {
-        times.sort_by(f64::total_cmp);
-    }
-}
-
-/// How many calls make a batch: doubled until they take a tenth of its time.
-fn calls_in_batch(mut batch: impl FnMut(usize) -> f64) -> usize {
-    let mut count = 1;
-    loop {
-        let time = batch(count);
-        if time >= BATCH / 10.0 {
-            return (count as f64 * BATCH / time).ceil() as usize;
-        }
-        count *= 2;
     }
 }

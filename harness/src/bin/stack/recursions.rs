@@ -1,31 +1,22 @@
-//! Recursion to the greatest depth that can be asked for, through each kind that runs something inside, on a thread with a stack of 256 KiB. The
-//! answers are worked out from 01.
-
-use std::process::exit;
-use std::thread;
+//! Recursion to the greatest depth that can be asked for, through each kind that runs something inside. The answers are worked out from 01.
 
 use yarnspire::grammar::{Grammar, Node};
 use yarnspire::{recognise, Answer, Limits, Refusal};
 
-const STACK: usize = 256 * 1024;
+use crate::{kib, on_small_stack};
 
-fn main() {
+/// Runs each on the input `A` under the greatest limits.
+pub fn run() -> Result<(), String> {
     for (name, grammar, steps) in recursions() {
+        let image = grammar.encode();
         let expected = Answer::Refused { refusal: Refusal { number: 13, place: 0 }, steps, depth: 256 };
-        let got = on_small_stack(grammar.encode());
+        let (got, taken) = on_small_stack(|| recognise(&image, b"A", Limits::AMPLE, &mut vec![0; Limits::AMPLE.slots()]));
         if got != expected {
-            println!("{name}: NOT OK: {got:?}, and not {expected:?}");
-            exit(1);
+            return Err(format!("{name}: {got:?}, and not {expected:?}"));
         }
-        println!("{name}: depth 256 in {steps} steps, then refused 13, on a stack of 256 KiB");
+        println!("{name}: depth 256 in {steps} steps, then refused 13, on a stack of 256 KiB; {} KiB of it are taken", kib(taken));
     }
-}
-
-/// Runs the image on the input `A` under the greatest limits.
-fn on_small_stack(image: Vec<u8>) -> Answer {
-    let run = move || recognise(&image, b"A", Limits::AMPLE, &mut vec![0; Limits::AMPLE.slots()]);
-    let started = thread::Builder::new().stack_size(STACK).spawn(run).expect("a thread can be started");
-    started.join().expect("the thread ends")
+    Ok(())
 }
 
 /// A name, a grammar that goes down for ever without consuming anything, and the steps spent when depth 256 is entered.
