@@ -10,9 +10,9 @@ use lib.Seq.{drop-cons}
 use borrow.Author.Tests.{eq-eqb, ne-eqb, eqb-false}
 use Rattle.format.specs.Reading.{pick}
 use Rattle.notation.specs.Bytes.{blank}
-use Rattle.notation.specs.Lexer.{Front, white, line-comment, block-comment, solid, front, second, Inside, outside, opening, in-block, starred, past, unclosed, skip, gap, blockOn, starOn}
+use Rattle.notation.specs.Lexer.{Front, white, line-comment, block-comment, solid, front, second, Inside, outside, opening, in-block, starred, Skipped, past, unclosed, skip, gap, blockOn, starOn}
 use Rattle.notation.specs.LexicalText.{no-way}
-use Rattle.lexer.specs.Gaps.{insideOf, moved, Stepped, skipped, place, Skips}
+use Rattle.lexer.specs.Gaps.{insideOf, moved, Stepped, Without, Further, skipped, place, Skips}
 use Rattle.lexer.specs.declared.gap.Gap.{Gap}
 use Rattle.lexer.specs.declared.gap.Gap.the-variants.{At, Open}
 use Rattle.lexer.proofs.PlaceLaws.{at-place, in-text}
@@ -168,6 +168,43 @@ module _ (t : List ℕ) (i n : ℕ) (c : List ℕ) (h : length t ≤ i) where
       go true b = refl
       go false true = refl
       go false false = refl
+
+-- ## Further on at once
+
+-- A byte more that is another.
+pub one-on : {t : List ℕ} {b j i : ℕ} → Without t b j i → i < length t → (getD t i 0 ≡ b → ⊥) → Without t b j (i + 1)
+one-on {t} {i = i} w h n = record {
+  goes = λ f k. w .goes f k ∙ rw (at-place t i h) (k (getD t i 0) (drop (i + 1) t) n);
+  onward = omega (arith, w .onward);
+  inside = λ z. omega arith;
+}
+
+module _ {t : List ℕ} {i r : ℕ} where
+  in-line-on : Without t 10 i r → Further t 1 i r
+  in-line-on w = record {
+    goes = λ c. w .goes (λ s. skip (insideOf 1 c) s) (λ x s e. line-on x 1 refl e c s ∙ goes-on c (x ∷ s) s (λ z. omega arith) (λ z. omega arith));
+    onward = w .onward;
+    within = w .inside;
+  }
+
+  pub line-further : {n : ℕ} → n ≡ 1 → Without t 10 i r → Further t n i r
+  line-further k w = rw k (in-line-on w)
+
+  in-block-on : Without t 42 i r → Further t 3 i r
+  in-block-on w = record {
+    goes = λ c. w .goes (λ s. skip (insideOf 3 c) s) (λ x s e. block-on x 3 refl e c s ∙ goes-on c (x ∷ s) s (λ z. omega arith) (λ z. omega arith));
+    onward = w .onward;
+    within = w .inside;
+  }
+
+  pub block-further : {n : ℕ} → n ≡ 3 → Without t 42 i r → Further t n i r
+  block-further k w = rw k (in-block-on w)
+
+  pub then-further : {n : ℕ} {x : Skipped} (c : List ℕ) → Further t n i r → x ≡ skip (insideOf n c) (drop i t) → x ≡ skip (insideOf n c) (drop r t)
+  then-further c f e = e ∙ f .goes c
+
+pub stays : {t : List ℕ} {n i : ℕ} → Further t n i i
+stays = record { goes = λ c. refl; onward = omega arith; within = λ z. z }
 
 -- The whole gap.
 module _ (t : List ℕ) (start n : ℕ) (h : start ≤ n) (l : start ≤ length t → n ≤ length t) where

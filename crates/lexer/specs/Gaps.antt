@@ -1,7 +1,7 @@
 -- What the code's numbers in a gap stand for, and what is promised of a gap.
 use Prim.Native.Nat.{ℕ, _+_, _≤_}
 use mathlib.Core.Path.{_≡_}
-use mathlib.Core.List.{List}
+use mathlib.Core.List.{List, _∷_}
 use lib.Dec.{eqb}
 use lib.ListN.{drop, length}
 use Rattle.format.specs.Reading.{pick}
@@ -23,6 +23,18 @@ moved n c here next = pick (eqb n 5) (past here) (skip (insideOf n (pick (eqb n 
 pub record Stepped (text : List ℕ) (i inside r : ℕ) : Type 0 where
   pub goes : (c : List ℕ) → skip (insideOf inside c) (drop i text) ≡ moved r c (drop i text) (drop (i + 1) text)
   pub small : r ≤ 5
+
+-- A place further on, with no byte b between.
+pub record Without (text : List ℕ) (b i r : ℕ) : Type 0 where
+  pub goes : (f : List ℕ → Skipped) → ((x : ℕ) (s : List ℕ) → (x ≡ b → ⊥) → f (x ∷ s) ≡ f s) → f (drop i text) ≡ f (drop r text)
+  pub onward : i ≤ r
+  pub inside : i ≤ length text → r ≤ length text
+
+-- A place further on in a gap, from which on it is skipped as from here.
+pub record Further (text : List ℕ) (inside i r : ℕ) : Type 0 where
+  pub goes : (c : List ℕ) → skip (insideOf inside c) (drop i text) ≡ skip (insideOf inside c) (drop r text)
+  pub onward : i ≤ r
+  pub within : i ≤ length text → r ≤ length text
 
 -- The bytes behind a gap, or from the open `/*` on; and the place where they begin.
 unfoldable pub skipped : List ℕ → Gap → Skipped

@@ -3,7 +3,7 @@ ghost use mathlib.Core.Path.{_≡_};
 ghost use Prim.Native.Nat.{_+_, _<_};
 ghost use lib.ListN.{length};
 ghost use Rattle.notation.specs.Bytes.{blank};
-ghost use Rattle.lexer.specs.Gaps.{Stepped, Skips};
+ghost use Rattle.lexer.specs.Gaps.{Stepped, Skips, Without, Further};
 
 // The place behind a gap; or the place of the `/*` that nothing closes.
 pub enum Gap {
@@ -81,6 +81,33 @@ fn step(text: &[u8], i: usize, inside: u8) -> u8
     3
 }
 
+// The next place at which a byte stands, or the text's end.
+fn find(text: &[u8], from: usize, b: u8) -> usize
+    ensures { λ r. ⌜ Without (now (text .entry)) b from r ⌝ }
+{
+    let mut i = from;
+    while i < text.len() {
+        if text[i] == b {
+            return i;
+        }
+        i += 1;
+    }
+    i
+}
+
+// How far one comes at once from a place of a gap: in a line to its end, in a block to the next `*`.
+fn further(text: &[u8], i: usize, inside: u8) -> usize
+    ensures { λ r. ⌜ Further (now (text .entry)) inside i r ⌝ }
+{
+    if inside == 1 {
+        return find(text, i, b'\n');
+    }
+    if inside == 3 {
+        return find(text, i, b'*');
+    }
+    i
+}
+
 // The place behind the gap that begins at a place.
 pub fn gap_from(text: &[u8], start: usize) -> Gap
     ensures { λ r. ⌜ Skips (now (text .entry)) start r ⌝ }
@@ -97,7 +124,7 @@ pub fn gap_from(text: &[u8], start: usize) -> Gap
             comment = i;
         }
         inside = next;
-        i += 1;
+        i = further(text, i + 1, next);
     }
     if inside < 2 {
         return Gap::At(i);

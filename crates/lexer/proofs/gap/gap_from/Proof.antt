@@ -5,9 +5,10 @@ use mathlib.Core.Path.{_≡_, refl, _∙_}
 use mathlib.Core.Logic.{⊎-elim}
 use native.Mathlib.Omega.{arith}
 use lib.ListN.{drop, length}
+use borrow.Author.Needs.{needs}
 use Rattle.notation.specs.Lexer.{gap, skip}
 use Rattle.lexer.specs.Gaps.{insideOf}
-use Rattle.lexer.proofs.GapLaws.{text-ends, text-breaks, stops, opens, goes-on, ended, broken}
+use Rattle.lexer.proofs.GapLaws.{then-further, text-ends, text-breaks, stops, opens, goes-on, ended, broken}
 use Rattle.lexer.proofs.gap.gap_from.Statement.{statement}
 use Rattle.lexer.proofs.gap.gap_from.Tie as tie
 
@@ -32,20 +33,24 @@ returns c =
     ended (a .text .now) (a .start) (l .i) (omega arith) (omega arith)
     (l .inv .0 ∙ c .before .step .ensures .goes (drop (l .comment) (a .text .now)) ∙ stops _ _ _ (c .if1 .taken))
 
-add-i : tie.Need-add-i Inv-loop μ-loop
-add-i c = omega arith
+add-further : tie.Need-add-further Inv-loop μ-loop
+add-further c = omega arith
+
+further-requires : tie.Need-further-requires Inv-loop μ-loop
+further-requires c κs = search needs
 
 loop-less : tie.Need-loop-less Inv-loop μ-loop
-loop-less c = omega arith
+loop-less c = omega (arith, c .further .ensures .onward)
 
 loop-again : tie.Need-loop-again Inv-loop μ-loop
 loop-again c =
-    let s = c .before .before .before .before in let t = s .before .before .args .text .now in let k = c .before .before .step .ensures in
+    let s = c .before .before .before .before .before in let t = s .before .before .args .text .now in let k = c .before .before .before .step .ensures in
     let g = s .loop .inv .0 ∙ k .goes (drop (s .loop .comment) t) in let l = k .small in
+    let f = c .further .ensures in let o = f .onward in let v = f .within (omega arith) in
     ⊎-elim
-    (λ w. (g ∙ rw (w .1) (opens _ _ _ (w .0 .taken)), omega arith, omega arith, omega arith, omega arith))
-    (λ w. (g ∙ rw (w .1) (goes-on _ _ _ (c .before .if1 .left) (w .0 .left)), omega arith, omega arith, omega arith, omega arith))
-    (c .if2 .came)
+    (λ w. (then-further _ f (g ∙ rw (w .1) (opens _ _ _ (w .0 .taken))), omega arith, omega arith, omega (arith, o), λ z. v))
+    (λ w. (then-further _ f (g ∙ rw (w .1) (goes-on _ _ _ (c .before .before .if1 .left) (w .0 .left))), omega arith, omega arith, omega (arith, o), λ z. v))
+    (c .before .if2 .came)
 
 returns-2 : tie.Need-returns-2 Inv-loop μ-loop
 returns-2 c =
@@ -68,7 +73,8 @@ gap-from-spec =
     loop-holds
     step-requires
     returns
-    add-i
+    add-further
+    further-requires
     loop-less
     loop-again
     returns-2
