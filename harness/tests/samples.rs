@@ -4,7 +4,7 @@ use yarnspire::files::{bytes, names, path};
 use yarnspire::samples::{expected, grammar, image, Expected};
 use yarnspire::{check, harbour, notation, recognise, reference, Answer, Limits};
 
-const SAMPLES: [&str; 6] = ["bulletin", "harbour", "heredoc", "indentation", "tags", "typedef"];
+const SAMPLES: [&str; 7] = ["bulletin", "harbour", "heredoc", "indentation", "tags", "tides", "typedef"];
 
 #[test]
 fn every_folder_is_a_sample() {
