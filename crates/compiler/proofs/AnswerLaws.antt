@@ -1,4 +1,4 @@
--- What is given for a refusal.
+-- What is given, by what is said.
 use Prim.Native.Nat.{ℕ, _≤_}
 use mathlib.Core.Path.{_≡_, refl, ap, sym, _∙_, subst}
 use mathlib.Core.List.{List}
@@ -47,10 +47,11 @@ module _ (text : List ℕ) {j : Judgement} {number p : ℕ} (is : Judges text j)
 -- ## What is given where the rules let pass
 
 -- By what was found.
-module _ (name : Lexeme → ℕ) (later : Answer) where
-  by-found : (o : Option Lexeme) {f : Found} {q : ℕ} → f ≡ found name o → f ≡ At q → orElse o (λ l. refused 24 (name l)) later ≡ refused 24 q
-  by-found none e h = no-way (cc)
-  by-found (some l) {f} {q} e h = let z : name l ≡ q = cc in ap (refused 24) z
+module _ (name : Lexeme → ℕ) where
+  by-found :
+      (o : Option Lexeme) {f : Found} {q : ℕ} (later : Answer) → f ≡ found name o → f ≡ At q → orElse o (λ l. refused 24 (name l)) later ≡ refused 24 q
+  by-found none later e h = no-way (cc)
+  by-found (some l) {f} {q} later e h = let z : name l ≡ q = cc in ap (refused 24) z
 
   by-nothing : (o : Option Lexeme) {f : Found} → f ≡ found name o → f ≡ Nowhere → o ≡ none
   by-nothing none e h = refl
@@ -59,12 +60,12 @@ module _ (name : Lexeme → ℕ) (later : Answer) where
 module _ {text : List ℕ} (short : length text ≤ 65535) {ps : List Production} (p : Passes text ps) {f : Found} (e : f ≡ found (namePlace text) (overImage text ps)) where
   -- The image is too long with a production.
   pub over-said : {q : ℕ} → f ≡ At q → (room : ℕ) → Says text room (refused 24 q)
-  over-said h room = subst (Says text room) (by-found (namePlace text) _ (overImage text ps) e h) (said-passed short p room)
+  over-said h room = subst (Says text room) (by-found (namePlace text) (overImage text ps) _ e h) (said-passed short p room)
 
   -- It is not too long.
   module _ (h : f ≡ Nowhere) where
     nothing-over : overImage text ps ≡ none
-    nothing-over = by-nothing (namePlace text) (refused 25 0) (overImage text ps) e h
+    nothing-over = by-nothing (namePlace text) (overImage text ps) e h
 
     pub image-short : length (encode (compile ps)) ≤ 16384
     image-short =

@@ -2,10 +2,10 @@
 pub mod ListedLaws
 pub mod JudgeLaws
 pub mod RuledLaws
-pub mod LendLaws
 pub mod AnswerLaws
 pub mod FewLaws
 pub mod NumberLaws
 pub mod PartLaws
-pub mod MadeLaws
 pub mod EmitLaws
+pub mod MadeLaws
+pub mod LendLaws

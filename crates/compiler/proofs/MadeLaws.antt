@@ -18,14 +18,14 @@ use Rattle.naming.specs.Sized.{nodesOf, Sized}
 use Rattle.naming.specs.declared.found.Found.{Found}
 use Rattle.naming.specs.declared.found.Found.the-variants.{At, Nowhere}
 use Rattle.writer.specs.Put.{Wrote, AllSmall}
-use Rattle.writer.specs.Stage.{bytesOf}
-use Rattle.writer.specs.Emitted.{nodesUpTo}
+use Rattle.emitter.specs.Stage.{bytesOf}
+use Rattle.emitter.specs.Emitted.{nodesUpTo}
 use Rattle.writer.specs.declared.node.Made.{Made}
 use Rattle.compiler.specs.declared.image.Compiled.{Compiled}
 use Rattle.compiler.specs.Compiles.{Compiles}
 use Rattle.compiler.specs.Images.{Lends, Makes}
 use Rattle.compiler.proofs.RuledLaws.{overImage, held}
-use Rattle.compiler.proofs.FewLaws.{productions-nodes}
+use Rattle.compiler.proofs.FewLaws.{few-productions}
 use Rattle.compiler.proofs.EmitLaws.{up-to}
 use Rattle.compiler.proofs.AnswerLaws.{over-said, image-short, image-lent}
 use Rattle.compiler.proofs.PartLaws.{front-within, front-count}
@@ -57,8 +57,10 @@ module _ {text out patterns ends : List ℕ} {switches start : ℕ} {made : Made
   pub head-small : AllSmall (switches ∷ made .nodes ∷ start ∷ patterns)
   head-small =
       let h = held (m .passes) in
-      rw (m .emits .patterns-are, m .emits .nodes-many, m .switches-are, m .start-is)
-      (omega (arith, h .few-conditions), (omega (arith, h .few-nodes), (start-small (m .productions) (h .few-nodes), patterns-small (m .productions) (h .few-nodes))))
+      rw (m .emits .patterns-are, m .emits .nodes-many, m .switches-are, m .start-is) (
+        omega (arith, h .few-conditions),
+        (omega (arith, h .few-nodes), (start-small (m .productions) (h .few-nodes), patterns-small (m .productions) (h .few-nodes))),
+      )
 
   abbrev headed : List ℕ
   headed = numbers (1 ∷ length patterns ∷ switches ∷ made .nodes ∷ start ∷ []) ++ numbers patterns
@@ -72,7 +74,7 @@ module _ {text out patterns ends : List ℕ} {switches start : ℕ} {made : Made
     unfolding imageUpTo
     sized =
         record {
-          many = omega (arith, m .ends-long, productions-nodes (m .productions), held (m .passes) .few-nodes);
+          many = omega (arith, m .ends-long, few-productions (m .passes));
           each = λ i h.
               let z : getD (nodesUpTo 0 (m .productions)) i 0 ≡ nodesOf (take (suc i) (m .productions)) = omega (arith, up-to 0 i (m .productions) h) in
               omega (
@@ -85,6 +87,7 @@ module _ {text out patterns ends : List ℕ} {switches start : ℕ} {made : Made
               );
         }
 
+    -- By what `over_image` finds.
     module _ {f : Found} (o : (ps : List Production) (g : Grammar) → ReadsAs text ps → Sized g base ends ps → f ≡ found (namePlace text) (firstOver 16384 (imageUpTo g) 0 ps (only isHead (lexemes text)))) where
       over-is : f ≡ found (namePlace text) (overImage text (m .productions))
       over-is = o (m .productions) grammar (m .passes .reading) sized

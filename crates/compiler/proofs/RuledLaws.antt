@@ -70,7 +70,7 @@ module _ (name token : Lexeme → ℕ) where
   searched-answers none none none none none none none later = refl
 
   -- Where all pass, nothing was found.
-  pub searched-none :
+  searched-none :
       (a b c d e f g : Option Lexeme) → searched a b c d e f g ≡ Passed
       → (isNone a ≡ true) × (isNone b ≡ true) × (isNone c ≡ true) × (isNone d ≡ true) × (isNone e ≡ true) × (isNone f ≡ true) × (isNone g ≡ true)
   searched-none (some l) b c d e f g q = no-way (cc)
@@ -97,7 +97,9 @@ module _ (text : List ℕ) (ps : List Production) (room : ℕ) where
 
   judged-ruled : judged text room ps (lexemes text) ≡ answered (ruled text ps) imaged
   unfolding judged ruled
-  judged-ruled = searched-answers (namePlace text) (tokenPlace text) (lacks text ps) (twice text ps) (differs text ps) (ninthTable text ps) (ninthSwitch text ps) (longText text ps) (overNodes text ps) imaged
+  judged-ruled =
+      searched-answers (namePlace text) (tokenPlace text) (lacks text ps) (twice text ps) (differs text ps) (ninthTable text ps) (ninthSwitch text ps)
+      (longText text ps) (overNodes text ps) imaged
 
 -- ## What holds where the rules let pass
 

@@ -7,10 +7,10 @@ use Rattle.notation.specs.Tree.{Name, Production}
 use Rattle.notation.specs.Naming.{names, conditions}
 use Rattle.notation.specs.Naming as Naming
 use Rattle.notation.specs.Compile.{sorted, entry, compile}
-use Rattle.writer.specs.declared.node.Made.{Made}
 use Rattle.notation.specs.Compile as Compile
 use Rattle.writer.specs.Named.{namesOf, productionBy}
-use Rattle.writer.specs.Emitted.{Emits}
+use Rattle.emitter.specs.Emitted.{Emits}
+use Rattle.writer.specs.declared.node.Made.{Made}
 use Rattle.compiler.specs.Judges.{Passes}
 use Rattle.compiler.specs.declared.image.Compiled.{Compiled}
 use Rattle.compiler.specs.declared.image.Compiled.the-variants.{Written, Refused}

@@ -18,6 +18,7 @@ use Rattle.naming.specs.declared.found.Found.the-variants.{At, Nowhere}
 use Rattle.compiler.specs.declared.judge.Judgement.{Judgement}
 use Rattle.compiler.specs.declared.judge.Judgement.the-variants.{Passed, Refused}
 
+infixr 20 _then_
 -- Refused where something was found.
 abbrev pub refusal : ℕ → Found → Judgement
 refusal number (At p) = Refused number p
@@ -28,7 +29,7 @@ abbrev pub _then_ : Judgement → Judgement → Judgement
 _then_ Passed later = later
 _then_ (Refused number p) later = Refused number p
 
-infixr 5 _then_
+-- The rules, for a text that reads as these productions.
 module _ (text : List ℕ) (ps : List Production) where
   -- What is looked for, in this order: a name that is not defined, a name that is defined twice, a def that is not alike to the first of its
   -- table, a ninth table, a ninth condition, a long quoted text, the production with which there are over 512 nodes.

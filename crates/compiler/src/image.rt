@@ -1,10 +1,10 @@
 // The image of a text that has passed every rule but those on the image itself.
 use crate::judge::Judgement;
+use emitter::emit::emit;
 use naming::found::Found;
 use naming::gather::gather;
 use naming::image::over_image;
 use naming::roots::fill_roots;
-use writer::emit::emit;
 use writer::head::write_head;
 use writer::node::Made;
 ghost use mathlib.Core.Path.{_≡_};

@@ -18,3 +18,5 @@ pub mod SignLaws
 pub mod OperatorLaws
 -- The lexemes from a place on, by the token that the code gives there.
 pub mod LexedLaws
+-- Quoted texts and classes, where their tokens begin.
+pub mod LeafLaws

@@ -52,6 +52,7 @@ pub mod Means
 pub mod MeansLaws
 pub mod CompileLaws
 pub mod FitLaws
+pub mod BelowLaws
 pub mod ReadLaws
 pub mod SoundLaws
 pub mod NumberingLaws

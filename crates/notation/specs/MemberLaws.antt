@@ -67,6 +67,13 @@ all-append f (x ∷ xs) ys = ap (λ b. pick (f x) b false) (all-append f xs ys) 
     join true b c = refl
     join false b c = refl
 
+-- Of two rows of tests that hold, each holds.
+pub all-both : (xs ys : List Bool) → all (λ b. b) (xs ++ ys) ≡ true → (all (λ b. b) xs ≡ true) × (all (λ b. b) ys ≡ true)
+unfolding all
+all-both [] ys e = (refl, e)
+all-both (true ∷ xs) ys e = all-both xs ys e
+all-both (false ∷ xs) ys e = no-way (cc)
+
 pub all-map : {A B : Type 0} (f : B → Bool) (g : A → B) (xs : List A) → all f (map g xs) ≡ all (λ x. f (g x)) xs
 unfolding all
 all-map f g [] = refl

@@ -5,7 +5,6 @@ use mathlib.Core.Bool.{Bool, true, false}
 use mathlib.Core.List.{List, [], _∷_}
 use native.Mathlib.Omega.{arith}
 use lib.ListN.{length, length-map}
-use Rattle.grammar.specs.Grammar.{size}
 use Rattle.grammar.specs.Grammar as G
 use Rattle.notation.specs.Tree.{Name, Production}
 use Rattle.notation.specs.Lexer.{same}
@@ -13,9 +12,8 @@ use Rattle.notation.specs.LexicalText.{no-way}
 use Rattle.notation.specs.LexicalToken.{same-true}
 use Rattle.notation.specs.Naming.{member, tables, conditions}
 use Rattle.notation.specs.Compile.{order, lower, equal, place, sorted, entry, patternsAll, compile}
-use Rattle.notation.specs.CompileLaws.{member-sorted, productionNumber, tableNumber, conditionNumber}
+use Rattle.notation.specs.CompileLaws.{member-sorted, tableNumber, conditionNumber}
 use Rattle.notation.specs.OrderLaws.{order-same, lower-lower, Below, Ascending, sorted-ascending}
-use Rattle.notation.specs.SoundLaws.{total, emit-all-length}
 
 -- ## Names of a list
 
@@ -80,7 +78,7 @@ module _ (ps : List Production) where
   conditions-ordered c d m k o =
       lower-first c d (sorted (conditions ps)) (sorted-ascending (conditions ps)) (member-sorted c (conditions ps) m) (member-sorted d (conditions ps) k) o
 
-  -- As many tables and conditions as there are names (`sorted` has each once, `sorted-distinct` and `sorted-member`), and as many nodes as the productions come to.
+  -- As many tables and conditions as there are names: `sorted` has each once (`sorted-distinct`, `sorted-member`).
   pub tables-counted : G.tables (compile ps) ≡ length (sorted (tables ps))
   unfolding compile
   tables-counted = length-map (sorted (tables ps)) (λ t. entry t (patternsAll 0 ps))
@@ -88,7 +86,3 @@ module _ (ps : List Production) where
   pub conditions-counted : compile ps .conditions ≡ length (sorted (conditions ps))
   unfolding compile
   conditions-counted = refl
-
-  pub nodes-counted : size (compile ps) ≡ total ps
-  unfolding compile
-  nodes-counted = emit-all-length (productionNumber ps) (tableNumber ps) (conditionNumber ps) 0 ps

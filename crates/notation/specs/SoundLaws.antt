@@ -1,117 +1,32 @@
 -- THE GRAMMAR THAT A READING IS COMPILED TO IS SOUND, within 01's limits. So its image is read back as the very same.
-use Prim.Native.Nat.{ℕ, zero, suc, _+_, _-_, _≤_, _<_}
-use mathlib.Core.Path.{_≡_, refl, ap, sym, _∙_, subst}
+use Prim.Native.Nat.{ℕ, _+_, _≤_, _<_}
+use mathlib.Core.Path.{_≡_, refl}
 use mathlib.Core.Bool.{Bool, true, false}
-use mathlib.Core.List.{List, [], _∷_, _++_, map}
+use mathlib.Core.List.{List, [], _∷_}
 use native.Mathlib.Omega.{arith}
-use lib.Dec.{eqb, leb}
-use lib.ListN.{length, getD, length-append}
+use lib.Dec.{leb}
+use lib.ListN.{length, length-map}
 use borrow.Author.Tests.{leb-true}
-use Rattle.format.specs.Reading.{pick}
 use Rattle.format.specs.Written.{encode}
-use Rattle.format.specs.RoundTrip.{Stands}
-use Rattle.grammar.specs.Expr.{Expr, Empty}
-use Rattle.grammar.specs.Grammar.{Grammar, size, node, pattern}
+use Rattle.grammar.specs.Grammar.{Grammar, size}
 use Rattle.grammar.specs.Grammar as G
-use Rattle.grammar.specs.Sound.{Bytes, Fits, Sound}
-use Rattle.notation.specs.Tree.{Name, Leaf, any, quoted, class, call, query, if, Opener, def, block, local, on, Tree, leaf, prefix, suffix, binary, within, Production}
+use Rattle.grammar.specs.Sound.{Bytes, Sound}
+use Rattle.notation.specs.Tree.{Name, Leaf, any, quoted, class, call, query, if, def, block, local, on, Tree, leaf, prefix, suffix, binary, within, Production}
 use Rattle.notation.specs.Token.{Token}
 use Rattle.notation.specs.Notation.{Productions, last, more}
-use Rattle.notation.specs.Lexer.{same}
 use Rattle.notation.specs.LexicalText.{no-way}
 use Rattle.notation.specs.Naming.{perLeaf, perOperator, everywhere, tableOf, tableIn, conditionOf, conditionIn, tables, conditions, member, all}
-use Rattle.notation.specs.Compile.{sorted, place, Entry, entry, count, root, emit, emitAll, roots, defined, patternsIn, patternsAll, first, compile}
+use Rattle.notation.specs.Compile.{sorted, entry, count, emit, emitAll, roots, patternsAll, compile}
 use Rattle.notation.specs.CompileLaws.{member-here, member-left, member-right, member-later, member-sorted, productionNumber, tableNumber, conditionNumber}
+use Rattle.notation.specs.MemberLaws.{all-both}
 use Rattle.notation.specs.MeansLaws.{emit-length}
-use Rattle.notation.specs.FitLaws.{AllFit, fit-none, fit-append, LeafFits, OpenerFits, TreeFits, some-nodes, emit-fits}
+use Rattle.notation.specs.FitLaws.{AllFit, fit-none, fit-append, LeafFits, TreeFits, emit-fits}
+use Rattle.notation.specs.BelowLaws.{nodesOf, size-is, body-some, entry-below, first-below, roots-below, patterns-below, map-below, place-below}
 use Rattle.notation.specs.ReadLaws.{LeafRead, TreeRead, AllRead, bytes-all, read-bytes}
 use Rattle.notation.specs.Limits.{short, both, fits}
 use Rattle.notation.specs.Text.{ReadsAs}
 
--- ## Numbers stay below the number of nodes
-
-pub total : List Production → ℕ
-total [] = 0
-total (p ∷ ps) = count (p .body) + total ps
-
-abbrev Below : ℕ → List Entry → Type 0
-Below B [] = Unit
-Below B (e ∷ es) = (e .number < B) × Below B es
-
-below-on : (B : ℕ) (es fs : List Entry) → Below B es → Below B fs → Below B (es ++ fs)
-below-on B [] fs f g = g
-below-on B (e ∷ es) fs f g = (f .0, below-on B es fs (f .1) g)
-
-entry-below : (B : ℕ) (es : List Entry) (n : Name) → 0 < B → Below B es → entry n es < B
-unfolding entry
-entry-below B [] n h f = h
-entry-below B (e ∷ es) n h f = go (same n (e .name)) refl (entry-below B es n h (f .1))
-  where
-    go : (b : Bool) → same n (e .name) ≡ b → entry n es < B → entry n (e ∷ es) < B
-    go true q i = rw q (f .0)
-    go false q i = rw q i
-
-roots-below : (B k : ℕ) (ps : List Production) → k + total ps ≤ B → Below B (roots k ps)
-unfolding roots total
-roots-below B k [] h = tt
-roots-below B k (p ∷ ps) h =
-    (omega (arith, some-nodes 0 0 0 (λ n. 0) (λ n. 0) (λ n. 0) (p .body)), roots-below B (k + count (p .body)) ps (omega arith))
-
-patterns-below : (B k : ℕ) (a : Tree) → k + count a ≤ B → Below B (patternsIn k a)
-unfolding patternsIn count
-patterns-below B k (leaf l) h = tt
-patterns-below B k (prefix p a) h = patterns-below B k a (omega arith)
-patterns-below B k (suffix s a) h = patterns-below B k a (omega arith)
-patterns-below B k (binary b x y) h =
-    below-on B (patternsIn k x) (patternsIn (k + count x) y) (patterns-below B k x (omega arith)) (patterns-below B (k + count x) y (omega arith))
-patterns-below B k (within (def t) a) h = (omega arith, patterns-below B k a (omega arith))
-patterns-below B k (within (block t) a) h = patterns-below B k a (omega arith)
-patterns-below B k (within (local t) a) h = patterns-below B k a (omega arith)
-patterns-below B k (within (on c w) a) h = patterns-below B k a (omega arith)
-
-patterns-all-below : (B k : ℕ) (ps : List Production) → k + total ps ≤ B → Below B (patternsAll k ps)
-unfolding patternsAll total
-patterns-all-below B k [] h = tt
-patterns-all-below B k (p ∷ ps) h =
-    below-on B (patternsIn k (p .body)) (patternsAll (k + count (p .body)) ps) (patterns-below B k (p .body) (omega arith))
-    (patterns-all-below B (k + count (p .body)) ps (omega arith))
-
-map-below : (B : ℕ) (f : Name → ℕ) (ts : List Name) (i : ℕ) → 0 < B → ((t : Name) → f t < B) → getD (map f ts) i 0 < B
-map-below B f [] i h g = h
-map-below B f (t ∷ ts) zero h g = g t
-map-below B f (t ∷ ts) (suc i) h g = map-below B f ts i h g
-
-map-length : (f : Name → ℕ) (ts : List Name) → length (map f ts) ≡ length ts
-map-length f [] = refl
-map-length f (t ∷ ts) = ap suc (map-length f ts)
-
-place-below : (t : Name) (ts : List Name) → member t ts ≡ true → place t ts < length ts
-unfolding place member
-place-below t [] e = no-way (cc)
-place-below t (u ∷ ts) e = go (same t u) refl (λ h. place-below t ts h)
-  where
-    go : (b : Bool) → same t u ≡ b → (member t ts ≡ true → place t ts < length ts) → place t (u ∷ ts) < length (u ∷ ts)
-    go true q f = rw q (omega arith)
-    go false q f = let h = f (rw q at e) in rw q (omega arith)
-
-pub emit-all-length : (pn tn cn : Name → ℕ) (k : ℕ) (ps : List Production) → length (emitAll pn tn cn k ps) ≡ total ps
-unfolding emitAll total
-emit-all-length pn tn cn k [] = refl
-emit-all-length pn tn cn k (p ∷ ps) =
-    omega (
-      arith,
-      length-append (emit pn tn cn k (p .body)) (emitAll pn tn cn (k + count (p .body)) ps),
-      emit-length pn tn cn k (p .body),
-      emit-all-length pn tn cn (k + count (p .body)) ps,
-    )
-
 -- ## Every expression's own numbers fit
-
-all-left : (xs ys : List Bool) → all (λ b. b) (xs ++ ys) ≡ true → (all (λ b. b) xs ≡ true) × (all (λ b. b) ys ≡ true)
-unfolding all
-all-left [] ys e = (refl, e)
-all-left (true ∷ xs) ys e = all-left xs ys e
-all-left (false ∷ xs) ys e = no-way (cc)
 
 module _ (T C N : ℕ) (pn tn cn : Name → ℕ) (calls : (n : Name) → pn n < N) where
   leaf-fits :
@@ -137,7 +52,7 @@ module _ (T C N : ℕ) (pn tn cn : Name → ℕ) (calls : (n : Name) → pn n < 
   tree-fits (prefix p a) r s t u c d = tree-fits a r s t u c d
   tree-fits (suffix p a) r s t u c d = tree-fits a r s t u c d
   tree-fits (binary b x y) r s t u c d =
-      let h = all-left (perLeaf short x) (perLeaf short y) s in (
+      let h = all-both (perLeaf short x) (perLeaf short y) s in (
         tree-fits x (r .0) (h .0) (λ n m. t n (member-left n (perLeaf tableOf x) (perLeaf tableOf y) m))
             (λ n m. u n (member-left n (perOperator tableIn x) (perOperator tableIn y) m))
             (λ n m. c n (member-left n (perLeaf conditionOf x) (perLeaf conditionOf y) m))
@@ -163,7 +78,7 @@ module _ (T C N : ℕ) (pn tn cn : Name → ℕ) (calls : (n : Name) → pn n < 
   all-fit [] k r s t u c d = fit-none T C N k
   all-fit (p ∷ ps) k r s t u c d =
       let a = p .body in
-      let h = all-left (perLeaf short a) (everywhere (perLeaf short) ps) s in
+      let h = all-both (perLeaf short a) (everywhere (perLeaf short) ps) s in
       fit-append T C N k (emit pn tn cn k a) (emitAll pn tn cn (k + count a) ps) (k + count a) (rw (emit-length pn tn cn k a))
       (emit-fits T C N pn tn cn k a (tree-fits a (r .0) (h .0)
       (λ n m. t n (member-left n (perLeaf tableOf a) (everywhere (perLeaf tableOf) ps) m))
@@ -208,13 +123,9 @@ within-limits ps g e =
       small-image = leb-true (length (encode g)) 16384 (l .1);
     }
 
-some-production : (p : Production) (ps : List Production) → (1 ≤ total (p ∷ ps)) × (first (roots 0 (p ∷ ps)) < total (p ∷ ps))
-unfolding total roots first
-some-production p ps = let h = some-nodes 0 0 0 (λ n. 0) (λ n. 0) (λ n. 0) (p .body) in (omega arith, omega arith)
-
 compiled-sound :
     (p : Production) (qs : List Production) → (let ps = p ∷ qs in let g = compile ps in
-    AllRead (length (sorted (tables ps))) (length (sorted (conditions ps))) (total ps) ps → Limits ps g → Sound g)
+    AllRead (length (sorted (tables ps))) (length (sorted (conditions ps))) (nodesOf ps) ps → Limits ps g → Sound g)
 unfolding compile
 compiled-sound p qs r l =
     let ps = p ∷ qs in
@@ -224,12 +135,12 @@ compiled-sound p qs r l =
     let cn = conditionNumber ps in
     let ts = sorted (tables ps) in
     let cs = sorted (conditions ps) in
-    let some = some-production p qs in
-    let N : size g ≡ total ps = emit-all-length pn tn cn 0 ps in
-    let T : G.tables g ≡ length ts = map-length (λ t. entry t (patternsAll 0 ps)) ts in
-    let calls : (n : Name) → pn n < total ps =
-    λ n. entry-below (total ps) (roots 0 ps) n (some .0) (roots-below (total ps) 0 ps (omega arith)) in
-    let fit = all-fit (length ts) (length cs) (total ps) pn tn cn calls ps 0 r (l .short-texts)
+    let some : 0 < nodesOf ps = omega (arith, body-some p) in
+    let N = size-is ps in
+    let T : G.tables g ≡ length ts = length-map ts (λ t. entry t (patternsAll 0 ps)) in
+    let calls : (n : Name) → pn n < nodesOf ps =
+    λ n. entry-below (nodesOf ps) some (roots 0 ps) n (roots-below (nodesOf ps) 0 ps (omega arith)) in
+    let fit = all-fit (length ts) (length cs) (nodesOf ps) pn tn cn calls ps 0 r (l .short-texts)
     (λ n m. place-below n ts (member-sorted n (tables ps) (member-left n (everywhere (perLeaf tableOf) ps) (everywhere (perOperator tableIn) ps) m)))
     (λ n m. place-below n ts (member-sorted n (tables ps) (member-right n (everywhere (perLeaf tableOf) ps) (everywhere (perOperator tableIn) ps) m)))
     (λ n m. place-below n cs (member-sorted n (conditions ps) (member-left n (everywhere (perLeaf conditionOf) ps) (everywhere (perOperator conditionIn) ps) m)))
@@ -237,20 +148,20 @@ compiled-sound p qs r l =
     record {
       few-tables = l .few-tables;
       few-conditions = l .few-conditions;
-      some-node = rw N (some .0);
+      some-node = rw N some;
       few-nodes = l .few-nodes;
-      start-named = rw N (some .1);
-      patterns-named = λ t h. rw N (map-below (total ps) (λ t. entry t (patternsAll 0 ps)) ts t (some .0)
-          (λ u. entry-below (total ps) (patternsAll 0 ps) u (some .0) (patterns-all-below (total ps) 0 ps (omega arith))));
+      start-named = rw N (first-below (nodesOf ps) some (roots 0 ps) (roots-below (nodesOf ps) 0 ps (omega arith)));
+      patterns-named = λ t h. rw N (map-below (nodesOf ps) (λ t. entry t (patternsAll 0 ps)) ts t some
+          (λ u. entry-below (nodesOf ps) some (patternsAll 0 ps) u (patterns-below (nodesOf ps) 0 ps (omega arith))));
       operands-fit = λ n h. rw (N, T) (let z : 0 + n ≡ n = omega arith in rw z at (fit n h));
     }
 
 -- A text of bytes within the limits has a sound grammar.
 pub sound-of : (text : List ℕ) (ps : List Production) → Bytes text → ReadsAs text ps → Limits ps (compile ps) → Sound (compile ps)
-sound-of text ps b r l = go ps (r .derives) (read-bytes (length (sorted (tables ps))) (length (sorted (conditions ps))) (total ps) text ps b r) l
+sound-of text ps b r l = go ps (r .derives) (read-bytes (length (sorted (tables ps))) (length (sorted (conditions ps))) (nodesOf ps) text ps b r) l
   where
     go : (ps : List Production) → {ts : List Token} → Productions ts ps
-        → AllRead (length (sorted (tables ps))) (length (sorted (conditions ps))) (total ps) ps → Limits ps (compile ps) → Sound (compile ps)
+        → AllRead (length (sorted (tables ps))) (length (sorted (conditions ps))) (nodesOf ps) ps → Limits ps (compile ps) → Sound (compile ps)
     go (p ∷ qs) P a l = compiled-sound p qs a l
     go [] P a l = absurd (never P refl)
       where

@@ -1,6 +1,6 @@
 -- The leaf that a token is, by the number of its symbol.
 use Prim.Native.Nat.{ℕ, _+_, _≤_}
-use mathlib.Core.Path.{_≡_, refl, ap, sym, _∙_, subst}
+use mathlib.Core.Path.{_≡_, refl, sym, subst}
 use mathlib.Core.Bool.{Bool, true, false}
 use mathlib.Core.List.{List, [], _∷_}
 use native.Mathlib.Omega.{arith}
@@ -12,18 +12,16 @@ use Rattle.format.specs.Reading.{pick}
 use Rattle.format.specs.Written.{numbers, bit, encodeNode}
 use Rattle.notation.specs.Tree.{Name, Part, Query, match, is, isa, exists, any, quoted, class, call, query, if}
 use Rattle.notation.specs.Token.{leaf}
-use Rattle.notation.specs.Lexical.{Spelled}
-use Rattle.notation.specs.Lexer.{lexemes}
 use Rattle.notation.specs.LexicalText.{no-way}
 use Rattle.notation.specs.At.{nameAt, quotedOf, partsOf, classOf}
 use Rattle.notation.specs.Naming.{all}
 use Rattle.notation.specs.Limits.{short}
 use Rattle.notation.specs.Compile.{queryNode}
 use Rattle.lexer.specs.declared.token.Token.{Token}
-use Rattle.lexer.specs.Meant.{leafAt, meant, ahead}
+use Rattle.lexer.specs.Meant.{leafAt}
+use Rattle.lexer.proofs.LeafLaws.{quoted-here, class-here}
 use Rattle.chars.specs.Meant.{QuotedAt, ClassAt}
 use Rattle.writer.specs.Leaf.{LeafTaken}
-use Rattle.writer.proofs.SpelledLaws.{first-spelled, quoted-there, class-there}
 
 -- A query is written as its tag and its table.
 abbrev QueryTag : (tag : ℕ) → Query → Type 0
@@ -80,26 +78,16 @@ module _ (text : List ℕ) (t : Token) where
       five false e = six (eqb (t .symbol) 6) refl (eqb-false (t .symbol) 5 e)
 
   module _ (k : LeafTaken text t) where
-    spelled : (r : List ℕ) × Spelled (leaf (leafAt text t)) (drop (t .start) text) r
-    unfolding ahead meant
-    spelled =
-        let e : ahead text t ≡ record { here = drop (t .start) text; token = leaf (leafAt text t) } ∷ lexemes (drop (t .next) text) = rw (k .kind) in
-        first-spelled (drop (k .at) text) (record { here = drop (t .start) text; token = leaf (leafAt text t) }) (lexemes (drop (t .next) text))
-        (k .lexed .goes ∙ e) (λ z. no-way (cc))
-
     pub taken-quoted : t .symbol ≡ 2 → QuotedAt text (t .start)
-    taken-quoted e = quoted-there text (t .start) (rw (leaf-quoted e) at (spelled .1))
+    taken-quoted e = quoted-here (k .lexed) (k .kind) e
 
     -- The parts of a class are one at least.
     pub taken-class : t .symbol ≡ 3 → ClassAt text (t .start) × (1 ≤ length (partsOf (drop (t .start) text)))
-    unfolding classOf
-    taken-class e = go (partsOf (drop (t .start) text)) refl
+    taken-class e = (class-here (k .lexed) (k .kind) e, some (partsOf (drop (t .start) text)) (k .lexed .parted (k .kind) e))
       where
-        go : (ps : List Part) → partsOf (drop (t .start) text) ≡ ps → ClassAt text (t .start) × (1 ≤ length ps)
-        go [] q = absurd (k .lexed .parted (k .kind) e q)
-        go (p ∷ ps) q =
-            let f : leafAt text t ≡ class p ps = leaf-class e ∙ ap classOf q in
-            (class-there text (t .start) (rw f at (spelled .1)), omega arith)
+        some : (ps : List Part) → (ps ≡ [] → ⊥) → 1 ≤ length ps
+        some [] n = absurd (n refl)
+        some (p ∷ ps) n = omega arith
 
   pub short-quoted : t .symbol ≡ 2 → all (λ b. b) (short (leafAt text t)) ≡ true → length (quotedOf (drop (t .start) text)) ≤ 64
   unfolding all

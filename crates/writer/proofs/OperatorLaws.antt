@@ -5,33 +5,42 @@ use mathlib.Core.Bool.{Bool, true, false, not}
 use mathlib.Core.List.{[], _∷_}
 use native.Mathlib.Omega.{arith}
 use lib.Dec.{eqb}
-use borrow.Author.Tests.{eqb-true, eqb-false, ne-eqb, lt-ltb, le-ltb}
+use borrow.Author.Tests.{eqb-true, eqb-false, ne-eqb, lt-ltb, le-ltb, le-leb, lt-leb}
 use Rattle.format.specs.Written.{numbers, encodeNode}
 use Rattle.grammar.specs.Expr.{Empty, Sequence, Choice, Star, Not}
 use Rattle.notation.specs.Tree.{Name, def, on}
 use Rattle.notation.specs.Compile.{operatorNode}
-use Rattle.writer.specs.Operator.{unaryNodes, binaryOf, openerOf}
+use Rattle.writer.specs.Operator.{firstOf, secondOf, binaryOf, openerOf}
+
+module _ (n a : ℕ) where
+  pub first-not : n ≤ 16 → firstOf n a ≡ Not a
+  unfolding firstOf
+  first-not h = rw (le-leb n 16 h)
+
+  pub first-empty : n ≡ 17 → firstOf n a ≡ Empty
+  unfolding firstOf
+  first-empty e = rw e
+
+  pub first-star : 16 < n → (n ≡ 17 → ⊥) → firstOf n a ≡ Star a
+  unfolding firstOf
+  first-star h e = rw (lt-leb n 16 h, ne-eqb n 17 e)
 
 module _ (n a k : ℕ) where
-  pub unary-and : n ≡ 15 → unaryNodes n a k ≡ Not a ∷ Not k ∷ []
-  unfolding unaryNodes
-  unary-and e = rw e
+  pub second-not : n ≡ 15 → secondOf n a k ≡ Not k ∷ []
+  unfolding secondOf
+  second-not e = rw e
 
-  pub unary-not : n ≡ 16 → unaryNodes n a k ≡ Not a ∷ []
-  unfolding unaryNodes
-  unary-not e = rw e
+  pub second-choice : n ≡ 17 → secondOf n a k ≡ Choice a k ∷ []
+  unfolding secondOf
+  second-choice e = rw e
 
-  pub unary-option : n ≡ 17 → unaryNodes n a k ≡ Empty ∷ Choice a k ∷ []
-  unfolding unaryNodes
-  unary-option e = rw e
+  pub second-sequence : n ≡ 19 → secondOf n a k ≡ Sequence a k ∷ []
+  unfolding secondOf
+  second-sequence e = rw e
 
-  pub unary-star : n ≡ 18 → unaryNodes n a k ≡ Star a ∷ []
-  unfolding unaryNodes
-  unary-star e = rw e
-
-  pub unary-plus : (n ≡ 15 → ⊥) → (n ≡ 16 → ⊥) → (n ≡ 17 → ⊥) → (n ≡ 18 → ⊥) → unaryNodes n a k ≡ Star a ∷ Sequence a k ∷ []
-  unfolding unaryNodes
-  unary-plus e f g h = rw (ne-eqb n 15 e, ne-eqb n 16 f, ne-eqb n 17 g, ne-eqb n 18 h)
+  pub second-none : (n ≡ 15 → ⊥) → (n ≡ 17 → ⊥) → (n ≡ 19 → ⊥) → secondOf n a k ≡ []
+  unfolding secondOf
+  second-none e f g = rw (ne-eqb n 15 e, ne-eqb n 17 f, ne-eqb n 19 g)
 
   pub binary-sequence : n ≡ 20 → binaryOf n a k ≡ Sequence a k
   unfolding binaryOf

@@ -4,8 +4,8 @@ use Prim.Native.Nat.{ℕ, _≤_}
 use mathlib.Core.List.{List}
 use lib.ListN.{length, getD}
 use Rattle.grammar.specs.Expr.{Expr}
-use Rattle.notation.specs.Tree.{Name, Leaf}
-use Rattle.notation.specs.Compile.{place, leafNodes}
+use Rattle.notation.specs.Tree.{Name, Leaf, Opener}
+use Rattle.notation.specs.Compile.{place, leafNodes, operatorNode}
 use Rattle.index.specs.Listed.{namesAt, Ascending}
 
 -- The names at all places of a slice.
@@ -22,6 +22,10 @@ productionBy text heads roots n = getD roots (placeBy text heads n) 0
 -- The nodes of a leaf, the next being k.
 abbrev pub leafBy : (text heads roots tables switches : List ℕ) (k : ℕ) → Leaf → List Expr
 leafBy text heads roots tables switches = leafNodes (productionBy text heads roots) (placeBy text tables) (placeBy text switches)
+
+-- The node of an operator in angle brackets.
+abbrev pub operatorBy : (text tables switches : List ℕ) (production : Name → ℕ) → Opener → (a : ℕ) → Expr
+operatorBy text tables switches production = operatorNode production (placeBy text tables) (placeBy text switches)
 
 -- The names of tables and of conditions are in byte order, each once, and there are at most eight of each.
 pub record Numbered (text tables switches : List ℕ) : Type 0 where

@@ -57,24 +57,93 @@ groups-most n = go (ltb n 128)
     go false = omega (arith, two-most (n / 128))
 
 module _ (n : ℕ) where
-  pub two-small : n < 128 → twoGroups n ≡ n ∷ []
+  two-small : n < 128 → twoGroups n ≡ n ∷ []
   two-small h = rw (lt-ltb n 128 h)
 
-  pub two-large : 128 ≤ n → twoGroups n ≡ (n % 128 + 128) ∷ n / 128 ∷ []
-  two-large h = rw (le-ltb n 128 h)
-
-  pub groups-small : n < 128 → groups n ≡ n ∷ []
+  groups-small : n < 128 → groups n ≡ n ∷ []
   groups-small h = rw (lt-ltb n 128 h)
 
-  pub groups-large : 128 ≤ n → groups n ≡ (n % 128 + 128) ∷ twoGroups (n / 128)
+  groups-large : 128 ≤ n → groups n ≡ (n % 128 + 128) ∷ twoGroups (n / 128)
   groups-large h = rw (le-ltb n 128 h)
 
-numbers-most : (ns : List ℕ) → length (numbers ns) ≤ 3 * length ns
+pub numbers-most : (ns : List ℕ) → length (numbers ns) ≤ 3 * length ns
 numbers-most [] = omega arith
 numbers-most (n ∷ ns) = omega (arith, length-append (groups n) (numbers ns), groups-most n, numbers-most ns)
 
+-- A tag and a number of one group take two bytes.
+pub one-group : (n : ℕ) → n < 128 → length (numbers (4 ∷ n ∷ [])) ≡ 2
+one-group n h = rw (groups-small n h)
+
 pub wrote-last : {was now : List ℕ} {at next : ℕ} (n : ℕ) → Wrote was at now next (groups n) → Wrote was at now next (numbers (n ∷ []))
 wrote-last n w = wrote-as (sym (append-nil (groups n))) w
+
+pub wrote-both :
+    {was mid now : List ℕ} {at i next : ℕ} (xs ys : List ℕ) → Wrote was at mid i (numbers xs) → Wrote mid i now next (numbers ys)
+    → Wrote was at now next (numbers (xs ++ ys))
+wrote-both xs ys f g = wrote-as (sym (written-on groups xs ys)) (wrote-on f g)
+
+-- ## A number, group by group
+
+-- In a last group and at most k before it, which hold the numbers below a bound.
+abbrev groupsIn : (k n : ℕ) → List ℕ
+groupsIn zero n = n ∷ []
+groupsIn (suc k) n = pick (ltb n 128) (n ∷ []) ((n % 128 + 128) ∷ groupsIn k (n / 128))
+
+abbrev bound : ℕ → ℕ
+bound zero = 128
+bound (suc k) = 128 * bound k
+
+groups-some : (k n : ℕ) → 1 ≤ length (groupsIn k n)
+groups-some zero n = omega arith
+groups-some (suc k) n = go (ltb n 128)
+  where
+    go : (b : Bool) → 1 ≤ length (pick b (n ∷ []) ((n % 128 + 128) ∷ groupsIn k (n / 128)))
+    go true = omega arith
+    go false = omega arith
+
+groups-last : (k n : ℕ) → n < 128 → groupsIn k n ≡ n ∷ []
+groups-last zero n h = refl
+groups-last (suc k) n h = rw (lt-ltb n 128 h)
+
+-- On the way: some groups of n were put down, and those of what is left are the others.
+pub record Putting (was : List ℕ) (at n : ℕ) (now : List ℕ) (next left : ℕ) : Type 0 where
+  pub more : ℕ
+  pub passed : List ℕ
+  pub wrote : Wrote was at now next passed
+  pub rest : passed ++ groupsIn more left ≡ groups n
+  pub small : left < bound more
+
+pub putting-first : (was : List ℕ) (at n : ℕ) → n < 65536 → Putting was at n was at n
+putting-first was at n h = record { more = 2; passed = []; wrote = wrote-none was at; rest = refl; small = omega arith }
+
+module _ {was mid : List ℕ} {at n next left : ℕ} (p : Putting was at n mid next left) where
+  pub putting-inside : at + length (groups n) ≤ length was → next < length mid
+  putting-inside h =
+      omega (
+        arith,
+        p .wrote .place,
+        p .wrote .long,
+        ap length (p .rest),
+        length-append (p .passed) (groupsIn (p .more) left),
+        groups-some (p .more) left,
+      )
+
+  pub putting-more : next < length mid → 128 ≤ left → Putting was at n (set mid next (left % 128 + 128)) (next + 1) (left / 128)
+  putting-more i h = go (p .more) (p .rest) (p .small)
+    where
+      go : (k : ℕ) → p .passed ++ groupsIn k left ≡ groups n → left < bound k → Putting was at n (set mid next (left % 128 + 128)) (next + 1) (left / 128)
+      go zero r s = absurd (omega arith)
+      go (suc k) r s = record {
+        more = k;
+        passed = p .passed ++ ((left % 128 + 128) ∷ []);
+        wrote = wrote-on (p .wrote) (wrote-byte mid next (left % 128 + 128) i);
+        rest = append-assoc (p .passed) ((left % 128 + 128) ∷ []) (groupsIn k (left / 128)) ∙ (rw (le-ltb left 128 h) at r);
+        small = omega (arith, div-add-mod' left 128);
+      }
+
+  pub putting-last : next < length mid → left < 128 → Wrote was at (set mid next left) (next + 1) (groups n)
+  putting-last i h =
+      wrote-as (ap (λ l. p .passed ++ l) (sym (groups-last (p .more) left h)) ∙ p .rest) (wrote-on (p .wrote) (wrote-byte mid next left i))
 
 -- ## Nodes
 
@@ -89,11 +158,11 @@ node-added ns h r w x e = record {
 
 pub text-added :
     {was now : List ℕ} {m : Made} {next : ℕ} (s : List ℕ) → length s ≤ 64 → Room was m 1
-    → Wrote was (m .length) now next (groups 4 ++ (groups (length s) ++ s)) → Adds was m now (record { nodes = m .nodes + 1; length = next }) (Text s ∷ [])
+    → Wrote was (m .length) now next (numbers (4 ∷ length s ∷ []) ++ s) → Adds was m now (record { nodes = m .nodes + 1; length = next }) (Text s ∷ [])
 text-added s h r w = record {
-  wrote = wrote-as (rw (append-nil (encodeNode (Text s)), append-nil (groups (length s)))) w;
+  wrote = wrote-as (sym (append-nil (encodeNode (Text s)))) w;
   many = refl;
-  low = omega (arith, w .place, length-append (groups (length s)) s, ap length (groups-small (length s) (omega arith)), r .low);
+  low = omega (arith, w .place, length-append (numbers (4 ∷ length s ∷ [])) s, one-group (length s) (omega arith), r .low);
 }
 
 pub adds-as : {was now : List ℕ} {m r : Made} {xs ys : List Expr} → xs ≡ ys → Adds was m now r xs → Adds was m now r ys

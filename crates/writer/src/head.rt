@@ -1,5 +1,6 @@
 // The front of an image: its heading and the nodes of its tables' patterns.
 use crate::out::put_number;
+use crate::out::put_two;
 ghost use mathlib.Core.List.{[], _∷_, _++_};
 ghost use Prim.Native.Nat.{_+_, _*_, _<_, _≤_};
 ghost use lib.ListN.{length};
@@ -31,10 +32,8 @@ pub fn write_head(
     requires { ⌜ (32 ≤ length (now out)) × (length (now patterns) ≤ 8) × AllSmall (switches ∷ nodes ∷ start ∷ now patterns) ⌝ }
     ensures { λ r. ⌜ Wrote (now (out .entry)) 0 (now (out .exit)) r (numbers (1 ∷ length (now (patterns .entry)) ∷ switches ∷ nodes ∷ start ∷ []) ++ numbers (now (patterns .entry))) ⌝ }
 {
-    let mut at = put_number(out, 0, 1);
-    at = put_number(out, at, patterns.len() as u16);
-    at = put_number(out, at, switches as u16);
-    at = put_number(out, at, nodes as u16);
-    at = put_number(out, at, start as u16);
-    put_row(out, at, patterns)
+    let next = put_two(out, 0, 1, patterns.len() as u16);
+    let last = put_two(out, next, switches as u16, nodes as u16);
+    let end = put_number(out, last, start as u16);
+    put_row(out, end, patterns)
 }

@@ -21,7 +21,7 @@ ghost use Rattle.writer.specs.Named.{namesOf, leafBy, Numbered};
 ghost use Rattle.writer.specs.Leaf.{LeafTaken};
 
 // The nodes of the leaf that a token is.
-pub(crate) fn add_leaf(
+pub fn add_leaf(
     text: &[u8],
     heads: &[u16],
     roots: &[u16],

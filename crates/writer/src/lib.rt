@@ -1,13 +1,9 @@
-// The image of a text that has passed every test, written by one walk over its symbols.
+// What a grammar's text is made of, as the bytes of an image: numbers, nodes, leaves and operators, and an image's front.
 pub mod class;
-pub mod emit;
 pub mod head;
 pub mod leaf;
 pub mod named;
 pub mod node;
 pub mod operator;
 pub mod out;
-pub mod pattern;
 pub mod quoted;
-pub mod state;
-pub mod step;

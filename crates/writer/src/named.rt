@@ -8,7 +8,7 @@ ghost use Rattle.index.specs.Listed.{Ascending};
 ghost use Rattle.writer.specs.Named.{namesOf, placeBy, productionBy};
 
 // The place of the name at p among those of a slice; behind all if it is none of them.
-pub(crate) fn place_of(text: &[u8], at: &[u16], p: usize) -> usize
+pub fn place_of(text: &[u8], at: &[u16], p: usize) -> usize
     requires { ⌜ Ascending (namesOf (now text) (now at)) ⌝ }
     ensures { λ r. ⌜ (r ≡ placeBy (now (text .entry)) (now (at .entry)) (nameAt (now (text .entry)) p)) × (r ≤ length (now (at .entry))) ⌝ }
 {

@@ -1,5 +1,6 @@
 // Nodes put down in a lent buffer: a tag, and then the operands.
 use crate::out::put_number;
+use crate::out::put_two;
 ghost use mathlib.Core.Path.{_≡_};
 ghost use mathlib.Core.List.{[], _∷_};
 ghost use Rattle.format.specs.Written.{numbers, encodeNode};
@@ -28,8 +29,7 @@ pub(crate) fn add_one(out: &mut [u8], m: Made, tag: u16, a: u16) -> Made
     requires { ⌜ Room (now out) m 1 ⌝ }
     ensures { λ r. ⌜ ((x : Expr) → encodeNode x ≡ numbers (tag ∷ a ∷ []) → Adds (now (out .entry)) m (now (out .exit)) r (x ∷ [])) ⌝ }
 {
-    let at = put_number(out, m.length, tag);
-    let end = put_number(out, at, a);
+    let end = put_two(out, m.length, tag, a);
     Made {
         nodes: m.nodes + 1,
         length: end,
@@ -40,9 +40,8 @@ pub(crate) fn add_two(out: &mut [u8], m: Made, tag: u16, a: u16, b: u16) -> Made
     requires { ⌜ Room (now out) m 1 ⌝ }
     ensures { λ r. ⌜ ((x : Expr) → encodeNode x ≡ numbers (tag ∷ a ∷ b ∷ []) → Adds (now (out .entry)) m (now (out .exit)) r (x ∷ [])) ⌝ }
 {
-    let at = put_number(out, m.length, tag);
-    let next = put_number(out, at, a);
-    let end = put_number(out, next, b);
+    let at = put_two(out, m.length, tag, a);
+    let end = put_number(out, at, b);
     Made {
         nodes: m.nodes + 1,
         length: end,
@@ -53,10 +52,8 @@ pub(crate) fn add_three(out: &mut [u8], m: Made, tag: u16, a: u16, b: u16, c: u1
     requires { ⌜ Room (now out) m 1 ⌝ }
     ensures { λ r. ⌜ ((x : Expr) → encodeNode x ≡ numbers (tag ∷ a ∷ b ∷ c ∷ []) → Adds (now (out .entry)) m (now (out .exit)) r (x ∷ [])) ⌝ }
 {
-    let at = put_number(out, m.length, tag);
-    let next = put_number(out, at, a);
-    let last = put_number(out, next, b);
-    let end = put_number(out, last, c);
+    let at = put_two(out, m.length, tag, a);
+    let end = put_two(out, at, b, c);
     Made {
         nodes: m.nodes + 1,
         length: end,

@@ -3,7 +3,7 @@ use crate::node::Made;
 use crate::node::add_one;
 use crate::node::add_tag;
 use crate::out::put_byte;
-use crate::out::put_number;
+use crate::out::put_two;
 use chars::quoted::quoted_length;
 use chars::written::char_at;
 ghost use mathlib.Core.Path.{_≡_};
@@ -37,9 +37,8 @@ fn add_text(text: &[u8], out: &mut [u8], m: Made, start: usize, n: u16) -> Made
     requires { ⌜ QuotedAt (now text) start × (n ≡ length (quotedOf (drop start (now text)))) × (n ≤ 64) × Room (now out) m 1 ⌝ }
     ensures { λ r. ⌜ Adds (now (out .entry)) m (now (out .exit)) r (Text (quotedOf (drop start (now (text .entry)))) ∷ []) ⌝ }
 {
-    let at = put_number(out, m.length, 4);
-    let next = put_number(out, at, n);
-    let end = put_quoted(text, out, next, start);
+    let at = put_two(out, m.length, 4, n);
+    let end = put_quoted(text, out, at, start);
     Made {
         nodes: m.nodes + 1,
         length: end,

@@ -4,7 +4,7 @@ use mathlib.Core.Path.{_≡_, refl, sym, _∙_}
 use borrow.Author.Needs.{needs}
 use lib.ListN.{length, take, replicate}
 use lib.Seq.{length-take-le}
-use Rattle.compiler.proofs.FewLaws.{tables-few}
+use Rattle.compiler.proofs.FewLaws.{listed-tables}
 use Rattle.compiler.proofs.PartLaws.{part-within, part-count}
 use Rattle.compiler.proofs.EmitLaws.{ready, makes}
 use Rattle.compiler.proofs.image.finish.Statement.{statement}
@@ -14,11 +14,11 @@ slice-aggregate-emit : tie.Need-slice-aggregate-emit
 slice-aggregate-emit c = search needs
 
 array-borrow-prefix-patterns : tie.Need-array-borrow-prefix-patterns
-array-borrow-prefix-patterns c = tables-few (c .before .before .before .before .before .before .before .pre .1 .lists)
+array-borrow-prefix-patterns c = listed-tables (c .before .before .before .before .before .before .before .pre .1 .lists)
 
 -- The front of the array has a place for each table's pattern, and as many came back.
 patterns-long : (c : tie.Start) → length {A = ℕ} (take (length (c .args .tables .now)) (replicate 8 0)) ≡ length (c .args .tables .now)
-patterns-long c = length-take-le (length (c .args .tables .now)) (replicate 8 0) (tables-few (c .pre .1 .lists))
+patterns-long c = length-take-le (length (c .args .tables .now)) (replicate 8 0) (listed-tables (c .pre .1 .lists))
 
 filled : (c : tie.After-emit) → length (c .emit .last .1 .1 .1 .1 .1 .1 .0) ≡ length (c .before .before .before .before .before .before .before .before .before .before .args .tables .now)
 filled c = c .emit .kept .1 .1 .1 .1 .1 .1 .0 ∙ patterns-long (c .before .before .before .before .before .before .before .before .before .before)

@@ -1,28 +1,24 @@
 -- `add_one` meets its promise. Assumes nothing.
 use mathlib.Core.List.{[], _∷_}
 use native.Mathlib.Omega.{arith}
-use Rattle.writer.specs.PutLaws.{wrote-on, wrote-last, groups-most, node-added}
+use Rattle.writer.specs.PutLaws.{numbers-most, node-added}
 use borrow.Author.Needs.{needs}
 use Rattle.writer.proofs.node.add_one.Statement.{statement}
 use Rattle.writer.proofs.node.add_one.Tie as tie
 
-put-number-requires : tie.Need-put-number-requires
-put-number-requires c κs = let s = c .before .before in omega (arith, groups-most (s .args .tag))
+put-two-requires : tie.Need-put-two-requires
+put-two-requires c κs = let s = c .before .before in omega (arith, numbers-most (s .args .tag ∷ s .args .a ∷ []))
 
-put-number-requires-2 : tie.Need-put-number-requires-2
-put-number-requires-2 c κs = let s = c .before .before .before .before .before .before in omega (arith, groups-most (s .args .tag), groups-most (s .args .a))
-
-add-t11 : tie.Need-add-t11
-add-t11 c = search needs
+add-t8 : tie.Need-add-t8
+add-t8 c = search needs
 
 same-length : tie.Need-same-length
 same-length c = search needs
 
 returns : tie.Need-returns
-returns c = let s = c .before .before .before .before .before .before .before .before .before .before in
+returns c = let s = c .before .before .before .before .before .before in
     let a = s .args in
-    node-added (a .tag ∷ a .a ∷ []) (omega arith) (s .pre) (wrote-on (c .before .before .before .before .before .before .before .put-number .ensures) (wrote-last (a .a) (c .before .before .before .put-number2 .ensures)))
+    node-added (a .tag ∷ a .a ∷ []) (omega arith) (s .pre) (c .before .before .before .put-two .ensures)
 
 pub add-one-spec : {M : Type 1} → statement M
-add-one-spec =
-    tie.close (tie.spec put-number-requires put-number-requires-2 add-t11 same-length returns)
+add-one-spec = tie.close (tie.spec put-two-requires add-t8 same-length returns)

@@ -1,12 +1,10 @@
 -- `add_operator` meets its promise. Assumes nothing.
 use Prim.Native.Nat.{ℕ, _+_}
 use mathlib.Core.Path.{ap, ap₂, sym, _∙_}
-use mathlib.Core.Bool.{not}
 use mathlib.Core.List.{List, [], _∷_}
 use native.Mathlib.Omega.{arith}
-use lib.Dec.{eqb}
 use Rattle.format.specs.Written.{numbers}
-use Rattle.grammar.specs.Expr.{Expr, Def, On}
+use Rattle.grammar.specs.Expr.{Expr, Def}
 use Rattle.notation.specs.Tree.{Name, Opener}
 use Rattle.notation.specs.At.{nameAt}
 use Rattle.notation.specs.Compile.{operatorNode}
@@ -14,7 +12,6 @@ use Rattle.writer.specs.Named.{placeBy}
 use Rattle.writer.specs.Operator.{openerOf}
 use Rattle.writer.specs.PutLaws.{adds-as}
 use Rattle.writer.proofs.OperatorLaws.{opener-def, opener-on, opener-scope}
-use Rattle.writer.proofs.LeafLaws.{bit-byte}
 use borrow.Author.Needs.{needs}
 use Rattle.writer.proofs.operator.add_operator.Statement.{statement}
 use Rattle.writer.proofs.operator.add_operator.Tie as tie
@@ -29,31 +26,19 @@ switches s = placeBy (s .args .text .now) (s .args .switches .now)
 abbrev node : tie.Start → (Name → ℕ) → Opener → List Expr
 node s production o = operatorNode production (tables s) (switches s) o (s .args .a) ∷ []
 
-place-of-requires : tie.Need-place-of-requires
-place-of-requires c κs = search needs
-
-cast-add-three : tie.Need-cast-add-three
-cast-add-three c = search needs
-
-cast-add-three-2 : tie.Need-cast-add-three-2
-cast-add-three-2 c = search needs
-
-add-three-requires : tie.Need-add-three-requires
-add-three-requires c κs = search needs
+add-on-requires : tie.Need-add-on-requires
+add-on-requires c κs = search needs
 
 same-length : tie.Need-same-length
 same-length c = search needs
 
 returns : tie.Need-returns
-returns c = let s = c .before .before .before .before .before .before .before .before .before .before in
+returns c = let s = c .before .before .before .before .before .before .before .before .before in
     let a = s .args in
-    let n = nameAt (a .text .now) (a .p) in
-    λ production. adds-as (ap (node s production) (sym (opener-on (a .mark) n (omega arith))))
-    (c .before .before .add-three .ensures (On (switches s n) (not (eqb (a .mark) 13)) (a .a))
-    (ap₂ (λ n b. numbers (18 ∷ n ∷ b ∷ a .a ∷ [])) (sym (c .before .before .before .place-of .ensures .0)) (bit-byte (not (eqb (a .mark) 13)))))
+    λ production. adds-as (ap (node s production) (sym (opener-on (a .mark) (nameAt (a .text .now) (a .p)) (omega arith)))) (c .before .before .add-on .ensures)
 
-place-of-requires-2 : tie.Need-place-of-requires-2
-place-of-requires-2 c κs = search needs
+place-of-requires : tie.Need-place-of-requires
+place-of-requires c κs = search needs
 
 cast-table : tie.Need-cast-table
 cast-table c = search needs
@@ -69,7 +54,7 @@ returns-2 c = let s = c .before .before .before .before .before .before .before 
     let a = s .args in
     let n = nameAt (a .text .now) (a .p) in
     λ production. adds-as (ap (node s production) (sym (opener-def (a .mark) n (omega arith))))
-    (c .before .before .add-one .ensures (Def (tables s n)) (ap (λ n. numbers (10 ∷ n ∷ [])) (sym (c .before .before .before .before .before .place-of2 .ensures .0))))
+    (c .before .before .add-one .ensures (Def (tables s n)) (ap (λ n. numbers (10 ∷ n ∷ [])) (sym (c .before .before .before .before .before .place-of .ensures .0))))
 
 wide-requires : tie.Need-wide-requires
 wide-requires c κs = search needs
@@ -89,19 +74,16 @@ returns-3 c = let s = c .before .before .before .before .before .before .before 
     let n = nameAt (a .text .now) (a .p) in
     λ production. c .before .before .add-two .ensures (operatorNode production (tables s) (switches s) (openerOf (a .mark) n) (a .a))
     (opener-scope (a .mark) n (omega arith) (omega arith) production (tables s) (switches s) (a .a)
-    ∙ ap₂ (λ m n. numbers ((m + 4) ∷ n ∷ a .a ∷ [])) (sym (c .before .before .before .wide .ensures)) (sym (c .before .before .before .before .before .before .place-of2 .ensures .0)))
+    ∙ ap₂ (λ m n. numbers ((m + 4) ∷ n ∷ a .a ∷ [])) (sym (c .before .before .before .wide .ensures)) (sym (c .before .before .before .before .before .before .place-of .ensures .0)))
 
 pub add-operator-spec : {M : Type 1} → statement M
 add-operator-spec =
     tie.close
     (tie.spec
-    place-of-requires
-    cast-add-three
-    cast-add-three-2
-    add-three-requires
+    add-on-requires
     same-length
     returns
-    place-of-requires-2
+    place-of-requires
     cast-table
     add-one-requires
     same-length-2

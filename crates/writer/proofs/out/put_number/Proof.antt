@@ -1,54 +1,69 @@
--- `put_number` meets its promise. Assumes nothing.
-use mathlib.Core.Path.{ap, sym}
+-- `put_number` meets its promise. The loop's invariant: some groups were put down, and those of what is left are the others. The measure is what is left. Assumes
+-- nothing.
+use mathlib.Core.Path.{_∙_}
 use native.Mathlib.Omega.{arith}
-use lib.ListN.{length}
-use Rattle.writer.specs.PutLaws.{wrote-on, wrote-as, groups-small, groups-large}
-use borrow.Author.Needs.{needs}
+use lib.ListN.{length-set}
+use Rattle.writer.specs.PutLaws.{Putting, putting-first, putting-inside, putting-more, putting-last}
 use Rattle.writer.proofs.out.put_number.Statement.{statement}
 use Rattle.writer.proofs.out.put_number.Tie as tie
 
-cast-put-byte : tie.Need-cast-put-byte
-cast-put-byte c = search needs
+abbrev Inv-loop : tie.InvT-loop
+Inv-loop out₀ at n next₀ left₀ out next left = Putting out₀ at n out next left
 
-put-byte-requires : tie.Need-put-byte-requires
-put-byte-requires c κs = omega (arith, ap length (groups-small (c .before .before .before .args .n) (omega arith)), c .before .before .before .pre)
+abbrev μ-loop : tie.MeasureT-loop
+μ-loop out₀ at n next₀ left₀ out next left = left
 
-same-length : tie.Need-same-length
-same-length c = search needs
+loop-holds : tie.Need-loop-holds Inv-loop μ-loop
+loop-holds c = let a = c .args in putting-first (a .out .now) (a .at) (a .n) (omega arith)
 
-returns : tie.Need-returns
-returns c = wrote-as (sym (groups-small (c .before .before .before .before .before .before .args .n) (omega arith))) (c .before .before .put-byte .ensures)
+add-out : tie.Need-add-out Inv-loop μ-loop
+add-out c = omega arith
 
-add-put-byte : tie.Need-add-put-byte
-add-put-byte c = search needs
+cast-out : tie.Need-cast-out Inv-loop μ-loop
+cast-out c = omega arith
 
-cast-put-byte-2 : tie.Need-cast-put-byte-2
-cast-put-byte-2 c = search needs
+slice-write-out : tie.Need-slice-write-out Inv-loop μ-loop
+slice-write-out c = putting-inside (c .before .loop .inv) (c .before .before .pre)
 
-put-byte-requires-2 : tie.Need-put-byte-requires-2
-put-byte-requires-2 c κs = omega (arith, ap length (groups-large (c .before .before .before .args .n) (omega arith)), c .before .before .before .pre)
+add-next : tie.Need-add-next Inv-loop μ-loop
+add-next c = omega (arith, putting-inside (c .before .loop .inv) (c .before .before .pre))
 
-put-groups-requires : tie.Need-put-groups-requires
-put-groups-requires c κs = let w = c .before .before .before .put-byte2 .ensures in
-    (omega arith, omega (arith, ap length (groups-large (c .before .before .before .before .before .before .before .args .n) (omega arith)), c .before .before .before .before .before .before .before .pre, w .place, w .long))
+loop-less : tie.Need-loop-less Inv-loop μ-loop
+loop-less c = omega arith
 
-same-length-2 : tie.Need-same-length-2
-same-length-2 c = search needs
+loop-again : tie.Need-loop-again Inv-loop μ-loop
+loop-again c = let i = c .before .loop .inv in putting-more i (putting-inside i (c .before .before .pre)) (omega arith)
 
-returns-2 : tie.Need-returns-2
-returns-2 c = wrote-as (sym (groups-large (c .before .before .before .before .before .before .before .before .before .before .args .n) (omega arith))) (wrote-on (c .before .before .before .before .before .before .put-byte2 .ensures) (c .before .before .put-groups .ensures))
+cast-out-2 : tie.Need-cast-out-2 Inv-loop μ-loop
+cast-out-2 c = omega arith
+
+slice-write-out-2 : tie.Need-slice-write-out-2 Inv-loop μ-loop
+slice-write-out-2 c = putting-inside (c .before .loop .inv) (c .before .before .pre)
+
+add-result : tie.Need-add-result Inv-loop μ-loop
+add-result c = omega (arith, putting-inside (c .before .loop .inv) (c .before .before .pre))
+
+same-length : tie.Need-same-length Inv-loop μ-loop
+same-length c = let l = c .before .loop in length-set (l .out) (l .next) (l .left) ∙ l .inv .wrote .long
+
+returns : tie.Need-returns Inv-loop μ-loop
+returns c = let i = c .before .loop .inv in putting-last i (putting-inside i (c .before .before .pre)) (omega arith)
 
 pub put-number-spec : {M : Type 1} → statement M
 put-number-spec =
     tie.close
     (tie.spec
-    cast-put-byte
-    put-byte-requires
+    Inv-loop
+    μ-loop
+    loop-holds
+    add-out
+    cast-out
+    slice-write-out
+    add-next
+    loop-less
+    loop-again
+    cast-out-2
+    slice-write-out-2
+    add-result
     same-length
-    returns
-    add-put-byte
-    cast-put-byte-2
-    put-byte-requires-2
-    put-groups-requires
-    same-length-2
-    returns-2)
+    returns)
