@@ -1,5 +1,5 @@
 /*
- * Yarnspire: a recogniser for Nez grammars, proved. The rules are in docs/01-scope.md, called 01 here.
+ * Yarnspire: a recogniser for Nez grammars, proved. The rules are in docs/01-scope.md, called 01 here; how grammars are written is docs/notation.md.
  *
  * Link libyarnspire.a, which scripts/archive makes for x86-64 Linux. The library needs nothing but memcpy and memset, keeps nothing between calls, and allocates
  * nothing, so any number of threads may call it. A call takes less than 256 KiB of stack.
@@ -9,7 +9,7 @@
  *   - no pointer is null, not even beside a length of 0 (any address that is valid and aligned will do);
  *   - nothing that is written (the slots, the image that compile writes, and the numbers of the answer) overlaps anything else that is passed. What is
  *     passed as const is only read.
- * Nothing else: every image, input, limit and length gets its answer.
+ * Nothing else: every text, image, input, limit and length gets its answer.
  */
 #ifndef YARNSPIRE_H
 #define YARNSPIRE_H

@@ -44,7 +44,7 @@ unfolding nameIn
 name-front (Lexical.name {b = b} e N E) = rw (ne-eqb b 60 (no-letter 60 e refl))
 
 -- Behind `<`, a word and perhaps a `!`.
-name-switched : {w : Bool} {k n s u v t r : List ℕ} → Then (Named k) s u → Then (Truth w) u v → Gap v t → Named n t r → nameIn (60 ∷ s) ≡ t
+pub name-switched : {w : Bool} {k n s u v t r : List ℕ} → Then (Named k) s u → Then (Truth w) u v → Gap v t → Named n t r → nameIn (60 ∷ s) ≡ t
 unfolding nameIn behindTruth _then_
 name-switched K W g N = rw (name-complete K, truth-complete W, gap-skips g, behindTruth)
 

@@ -1,5 +1,6 @@
--- WHAT PRODUCTIONS MEAN IS FREE ONLY IN HOW NODES ARE NUMBERED, and in which of the same shape are one node: two grammars that mean the same
--- productions, their tables and conditions being numbered alike, have the same shape, however deep one looks.
+-- WHAT PRODUCTIONS MEAN SETTLES ALL THAT A RUN CAN COME TO: two grammars that mean the same productions, their tables and conditions being numbered alike, have the same
+-- shape from the start on, however deep one looks. They differ in how nodes are numbered, in which of the same shape are one node, and in nodes that nothing reaches. Of `compile`'s
+-- grammar there are as many nodes as its operators become (`size-is` in `BelowLaws`): each becomes its own, and only the operand of `+` is shared.
 use Prim.Native.Nat.{ℕ, zero, suc}
 use mathlib.Core.Path.{_≡_, refl, ap, ap₂, sym, _∙_, subst}
 use mathlib.Core.Bool.{Bool, true, false}

@@ -1,13 +1,18 @@
 -- What `compile` promises, for every text and every buffer. 02, L2.
 use Prim.Native.Nat.{ℕ}
 use mathlib.Core.Path.{_≡_}
-use mathlib.Core.List.{List}
+use mathlib.Core.List.{List, _++_}
 use mathlib.Core.Logic.{_↔_}
-use lib.ListN.{length, take}
+use lib.ListN.{length, drop}
 use Rattle.grammar.specs.Grammar.{Grammar}
 use Rattle.format.specs.Written.{encode}
 use Rattle.format.specs.Image.{good, readImage}
+use Rattle.notation.specs.Tree.{Production}
+use Rattle.notation.specs.Text.{ReadsAs}
+use Rattle.notation.specs.Judged as answer
+use Rattle.notation.specs.Said.{Says}
 use Rattle.notation.specs.Kept.{Taken, Due}
+use Rattle.notation.specs.SaidLaws.{Meant}
 use Rattle.compiler.specs.Compiles as compiler
 use Rattle.compiler.specs.declared.image.Compiled.{Compiled}
 use Rattle.compiler.specs.declared.image.Compiled.the-variants.{Written, Refused}
@@ -19,10 +24,16 @@ pub record Compiles (text before after : List ℕ) (r : Compiled) : Type 0 where
   -- An image is written exactly if the text is at most 65,535 bytes, the notation derives it, its names keep the rules, 01's limits hold, and the image of
   -- its grammar fits the buffer.
   pub written : ((n : ℕ) × (r ≡ Written n)) ↔ ((g : Grammar) × Taken text (length before) g)
-  -- The image is that grammar's, and good by `check`.
-  pub image : (n : ℕ) → r ≡ Written n → (g : Grammar) × Taken text (length before) g × (take n after ≡ encode g) × (readImage (take n after) ≡ good g)
+  -- The image is that grammar's, at the buffer's front; past it the buffer is as it was.
+  pub image : (n : ℕ) → r ≡ Written n → (g : Grammar) × Taken text (length before) g × (n ≡ length (encode g)) × (after ≡ encode g ++ drop n before)
+  -- It is good by `check`, and its grammar means the text's reading.
+  pub means :
+      (n : ℕ) (g : Grammar) → r ≡ Written n → Taken text (length before) g
+      → (readImage (encode g) ≡ good g) × ((ps : List Production) × ReadsAs text ps × Meant g ps)
   -- A refusal has its number exactly if that is the first of 20 to 25 that is due.
   pub refused : (number : ℕ) → ((at : ℕ) × (r ≡ Refused number at)) ↔ Due text (length before) number
+  -- Its place is the one that is said, and the buffer is as it was.
+  pub untouched : (number at : ℕ) → r ≡ Refused number at → Says text (length before) (answer.refused number at) × (after ≡ before)
 
 -- The same in three numbers, for C.
 abbrev pub numberOf : Compiled → ℕ

@@ -4,15 +4,13 @@ use mathlib.Core.Path.{_≡_, refl, ap, sym, _∙_, subst}
 use mathlib.Core.List.{List, _++_}
 use mathlib.Core.Logic.{_↔_}
 use native.Mathlib.Omega.{arith}
-use lib.ListN.{length, take, drop}
-use lib.Seq.{take-append-seam}
+use lib.ListN.{length, drop}
 use Rattle.grammar.specs.Grammar.{Grammar}
 use Rattle.grammar.specs.Sound.{Bytes}
 use Rattle.format.specs.Written.{encode}
-use Rattle.format.specs.Image.{good, readImage}
 use Rattle.notation.specs.Judged as answer
 use Rattle.notation.specs.Said.{Says}
-use Rattle.notation.specs.SaidLaws.{one-answer, taken-exactly, refused-exactly, good-read}
+use Rattle.notation.specs.SaidLaws.{one-answer, taken-exactly, refused-exactly, good-read, good-means}
 use Rattle.notation.specs.Kept.{Taken, Due}
 use Rattle.compiler.specs.Compiles as compiler
 use Rattle.compiler.specs.CompilesLaws.{one-outcome as one-given}
@@ -49,14 +47,11 @@ module _ (text before after : List ℕ) where
   written-says n (answer.good g, s, G) = (g, s, G .0, G .1)
   written-says n (answer.refused k p, s, G) = absurd G
 
-  refused-says : (n at : ℕ) → Given (Refused n at) → Says text (length before) (answer.refused n at)
+  refused-says : (n at : ℕ) → Given (Refused n at) → Says text (length before) (answer.refused n at) × (after ≡ before)
   refused-says n at (answer.good g, s, G) = absurd G
   refused-says n at (answer.refused k p, s, G) =
-      subst (λ k. Says text (length before) (answer.refused k at)) (sym (G .0))
-      (subst (λ p. Says text (length before) (answer.refused k p)) (sym (G .1)) s)
-
-  image-front : (n : ℕ) (g : Grammar) → n ≡ length (encode g) → after ≡ encode g ++ drop (length (encode g)) before → take n after ≡ encode g
-  image-front n g e f = rw (e, f) (take-append-seam (encode g) (drop (length (encode g)) before))
+      (subst (λ k. Says text (length before) (answer.refused k at)) (sym (G .0))
+      (subst (λ p. Says text (length before) (answer.refused k p)) (sym (G .1)) s), G .2)
 
   -- THE PROMISE IS MET.
   pub compiles : Bytes text → {r : Compiled} → compiler.Compiles text before after r → Compiles text before after r
@@ -68,12 +63,13 @@ module _ (text before after : List ℕ) where
     );
     image = λ n e.
         let g = written-says n (subst Given e (c .says)) in
-        let i = image-front n (g .0) (g .2) (g .3) in
-        (g .0, taken-exactly .0 (g .1), i, ap readImage i ∙ good-read bytes (g .1));
+        (g .0, taken-exactly .0 (g .1), g .2, g .3 ∙ ap (λ k. encode (g .0) ++ drop k before) (sym (g .2)));
+    means = λ n g e t. let s = taken-exactly .1 t in (good-read bytes s, good-means s);
     refused = λ number. (
-      λ w. refused-exactly .0 (w .0, refused-says number (w .0) (subst Given (w .1) (c .says))),
+      λ w. refused-exactly .0 (w .0, refused-says number (w .0) (subst Given (w .1) (c .says)) .0),
       λ d. let p = refused-exactly .1 d in (p .0, said-refused r number (p .0) (c .says) (p .1)),
     );
+    untouched = λ number at e. refused-says number at (subst Given e (c .says));
   }
 
 -- `compile`: TWO OUTCOMES THAT ITS PROMISE PERMITS ARE EQUAL.
