@@ -49,9 +49,11 @@ module _ (text before after : List ℕ) where
 
   refused-says : (n at : ℕ) → Given (Refused n at) → Says text (length before) (answer.refused n at) × (after ≡ before)
   refused-says n at (answer.good g, s, G) = absurd G
-  refused-says n at (answer.refused k p, s, G) =
-      (subst (λ k. Says text (length before) (answer.refused k at)) (sym (G .0))
-      (subst (λ p. Says text (length before) (answer.refused k p)) (sym (G .1)) s), G .2)
+  refused-says n at (answer.refused k p, s, G) = (
+    subst (λ k. Says text (length before) (answer.refused k at)) (sym (G .0))
+        (subst (λ p. Says text (length before) (answer.refused k p)) (sym (G .1)) s),
+    G .2,
+  )
 
   -- THE PROMISE IS MET.
   pub compiles : Bytes text → {r : Compiled} → compiler.Compiles text before after r → Compiles text before after r
