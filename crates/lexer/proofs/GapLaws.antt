@@ -149,6 +149,11 @@ module _ {n : ℕ} (c here next : List ℕ) where
   unfolding moved
   goes-on k l = rw (ne-eqb n 5 k, ne-eqb n 2 l)
 
+-- Where a gap ends at once.
+pub no-gap : {t : List ℕ} {i n : ℕ} → n ≡ 5 → Stepped t i 0 n → gap (drop i t) ≡ past (drop i t)
+unfolding insideOf
+no-gap {t} {i} k g = g .goes (drop i t) ∙ stops _ _ _ k
+
 -- The end of the text.
 module _ (t : List ℕ) (i n : ℕ) (c : List ℕ) (h : length t ≤ i) where
   pub text-ends : n < 2 → skip (insideOf n c) (drop i t) ≡ past (drop i t)

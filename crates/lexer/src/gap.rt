@@ -27,7 +27,7 @@ fn is_blank(b: u8) -> bool
 }
 
 // What the byte at a place outside a comment begins: 0 it is a blank, 1 a line comment, 2 a block comment, 5 none of these.
-fn front(text: &[u8], i: usize) -> u8
+pub(crate) fn front(text: &[u8], i: usize) -> u8
     requires { ⌜ i < length (now text) ⌝ }
     ensures { λ r. ⌜ Stepped (now (text .entry)) i 0 r ⌝ }
 {

@@ -1,5 +1,6 @@
 // A token of a text.
 use crate::gap::Gap;
+use crate::gap::front;
 use crate::gap::gap_from;
 use crate::name::is_letter;
 use crate::name::name_end;
@@ -130,7 +131,7 @@ fn token_at(text: &[u8], start: usize) -> Token
 }
 
 // The token behind the gap at a place; or the text ends there, or a comment is open.
-pub fn token_from(text: &[u8], at: usize) -> Token
+fn behind_gap(text: &[u8], at: usize) -> Token
     ensures { λ r. ⌜ Lexed (now (text .entry)) at r ⌝ }
 {
     match gap_from(text, at) {
@@ -142,4 +143,17 @@ pub fn token_from(text: &[u8], at: usize) -> Token
             token_at(text, start)
         }
     }
+}
+
+// The same, and at once where no gap stands.
+pub fn token_from(text: &[u8], at: usize) -> Token
+    ensures { λ r. ⌜ Lexed (now (text .entry)) at r ⌝ }
+{
+    if text.len() <= at {
+        return behind_gap(text, at);
+    }
+    if front(text, at) != 5 {
+        return behind_gap(text, at);
+    }
+    token_at(text, at)
 }

@@ -1,20 +1,21 @@
 -- Laws of `next`: acts that put out nothing are passed over, and the next one gives its symbol.
-use Prim.Native.Nat.{ℕ, _≤_, _<_}
-use mathlib.Core.Path.{_≡_, refl, _∙_}
+use Prim.Native.Nat.{ℕ, _+_, _-_, _≤_, _<_}
+use mathlib.Core.Path.{_≡_, refl, sym, _∙_}
 use mathlib.Core.List.{List}
-use lib.ListN.{length}
+use lib.ListN.{length, set, length-set}
 use borrow.Author.Tests.{ne-eqb}
 use native.Mathlib.Omega.{arith}
 use Rattle.notation.specs.Tree.{and, not}
 use Rattle.notation.specs.Stream.{_▸▸_, Pending}
 use Rattle.notation.specs.Symbols as Symbols
 use Rattle.lexer.specs.declared.token.Token.{Token}
+use Rattle.lexer.specs.Meant.{Lexed}
 use Rattle.walker.specs.declared.walk.Walk.{Walk}
 use Rattle.walker.specs.declared.walk.Step.{Step}
-use Rattle.walker.specs.Acts.{entryOf, latest, closing}
-use Rattle.walker.specs.Walks.{rest, Walks, toGo, plainOf, symbolAt, Gives, Nexts}
+use Rattle.walker.specs.Acts.{entryOf, latest, pushedBy, closing, Shifts}
+use Rattle.walker.specs.Walks.{rest, Walks, toGo, plainOf, symbolAt, Passing, Gives, Nexts}
 use Rattle.walker.specs.Steps.{shownAs, Closes, Takes, Acted, closes, takes, ends, breaks, Steps}
-use Rattle.walker.proofs.ActLaws.{Entry, a-bracket, an-angle, a-choice, a-row, a-prefix, entry}
+use Rattle.walker.proofs.ActLaws.{Entry, a-bracket, an-angle, a-choice, a-row, a-prefix, entry, pushes, bracket-closed}
 use Rattle.walker.proofs.WalkLaws.{Which, Shows, nothing, one, rest-comes, rest-takes, rest-closes, closes-number, takes-shows, walks-takes, falls-takes, walks-closes, falls-closes}
 
 -- ## Symbols
@@ -31,12 +32,9 @@ closed-symbol (a-prefix {p = not}) l text t = refl
 
 -- ## Passing over
 
--- The walk began as w₀ with the stack `was`, and has put out nothing up to here.
-pub record Passing (text was stack : List ℕ) (w₀ w : Walk) : Type 0 where
-  pub same : rest text was w₀ ≡ rest text stack w
-  pub walks : Walks text w
-  pub less : toGo text w ≤ toGo text w₀
-  pub long : length stack ≡ length was
+-- No act at all.
+pub stays : {text : List ℕ} (stack : List ℕ) {w : Walk} → Walks text w → Passing text stack stack w w
+stays stack W = record { same = refl; walks = W; less = omega arith; long = refl }
 
 module _ {text was stack now : List ℕ} {w₀ w : Walk} {s : Step} (P : Passing text was stack w₀ w) where
   -- Nothing was put out.
@@ -120,3 +118,34 @@ module _ {text was stack now : List ℕ} {w₀ w : Walk} {s : Step} (P : Passing
         breaks = λ z. P .same ∙ rest-comes stack (P .walks) c;
         long = S .long ∙ P .long;
       }
+
+-- One way behind another.
+pub along : {text was stack now : List ℕ} {w₀ w v : Walk} → Passing text was stack w₀ w → Passing text stack now w v → Passing text was now w₀ v
+along P Q = record { same = P .same ∙ Q .same; walks = Q .walks; less = omega (arith, P .less, Q .less); long = Q .long ∙ P .long }
+
+-- ## Brackets, many at once
+
+-- A token is taken that puts out nothing; and such a token is a `(` where an item must begin, and a `)` behind a primary, where it closes a `(`.
+module _ {text was stack now : List ℕ} {w₀ w : Walk} (P : Passing text was stack w₀ w) where
+  over-token :
+      (m g : ℕ) (u : Token) → Shifts (w .mode) (w .height) stack now (w .token .kind) m g → shownAs (w .token .kind) (w .token .symbol) ≡ 30
+      → Lexed text (w .token .next) u → length now ≡ length stack
+      → Passing text was now w₀ (record { mode = m; height = g; token = u }) × (toGo text (record { mode = m; height = g; token = u }) < toGo text w)
+  over-token m g u S e L l =
+      passed {s = record { symbol = 30; token = w .token; walk = record { mode = m; height = g; token = u } }} P refl
+      (record { acted = takes (record { shifts = S; symbol = sym e; token = refl; lexed = L }); long = l })
+
+module _ {text was stack : List ℕ} {w₀ : Walk} {m : ℕ} (h : ℕ) (t u : Token) (L : Lexed text (t .next) u) where
+  pub over-open :
+      Passing text was stack w₀ (record { mode = m; height = h; token = t }) → m ≡ 1 → t .kind ≡ 7 → h < length stack
+      → Passing text was (set stack h 0) w₀ (record { mode = m; height = h + 1; token = u })
+      × (toGo text (record { mode = m; height = h + 1; token = u }) < toGo text (record { mode = m; height = h; token = t }))
+  unfolding entryOf pushedBy shownAs
+  over-open P q e i = over-token P m (h + 1) u (rw q (pushes {k = t .kind} h stack 0 i (omega arith) (omega arith) (rw e) .acts)) (rw e) L (length-set stack h 0)
+
+  pub over-shut :
+      Passing text was stack w₀ (record { mode = m; height = h; token = t }) → m ≡ 2 → t .kind ≡ 3 → 1 ≤ h → latest h stack ≡ 0
+      → Passing text was stack w₀ (record { mode = m; height = h - 1; token = u })
+      × (toGo text (record { mode = m; height = h - 1; token = u }) < toGo text (record { mode = m; height = h; token = t }))
+  unfolding shownAs
+  over-shut P q e s z = over-token P m (h - 1) u (rw q (bracket-closed {k = t .kind} h stack s (omega arith) (omega arith) .acts)) (rw e) L refl

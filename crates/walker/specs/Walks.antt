@@ -56,6 +56,13 @@ pub record Taken (text : List ℕ) (n : ℕ) (t : Token) : Type 0 where
   pub opener : 10 ≤ n → n ≤ 13 → (t .kind ≡ 6) × (t .symbol ≡ n)
   pub closer : n ≡ 14 → t .kind ≡ 2
 
+-- The walk began as w₀ with the stack `was`, and has put out nothing up to here.
+pub record Passing (text was stack : List ℕ) (w₀ w : Walk) : Type 0 where
+  pub same : rest text was w₀ ≡ rest text stack w
+  pub walks : Walks text w
+  pub less : toGo text w ≤ toGo text w₀
+  pub long : length stack ≡ length was
+
 -- What was to come is the symbol that is given, and then what is to come. If a token was taken for it, the walk goes on behind that. It has less to go.
 pub record Gives (text was now : List ℕ) (w : Walk) (s : Step) : Type 0 where
   pub goes : rest text was w ≡ symbolAt text (s .symbol) (s .token) ▸ rest text now (s .walk)

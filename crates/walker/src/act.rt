@@ -1,5 +1,6 @@
 // One act of the walk: what is open is closed, or the front token is taken.
 ghost use mathlib.Core.Path.{_≡_};
+ghost use mathlib.Core.Bool.{true};
 ghost use mathlib.Core.List.{List};
 ghost use Prim.Native.Nat.{ℕ, _+_, _<_, _≤_};
 ghost use lib.ListN.{length};
@@ -22,6 +23,20 @@ fn last_open(stack: &[u8; 65536], height: usize) -> u8
         return 0;
     }
     stack[height - 1]
+}
+
+// Whether a token of this kind is a `)`, and the latest that is open a `(`.
+pub(crate) fn shuts(stack: &[u8; 65536], height: usize, kind: u8) -> bool
+    requires { ⌜ height ≤ 65536 ⌝ }
+    ensures { λ r. ⌜ (r ≡ true → (kind ≡ 3) × (1 ≤ height) × (latest height (now (stack .entry)) ≡ 0)) ⌝ }
+{
+    if kind != 3 {
+        return false;
+    }
+    if height == 0 {
+        return false;
+    }
+    stack[height - 1] == 0
 }
 
 // The least of what is open that a token of this kind closes.

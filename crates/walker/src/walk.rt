@@ -1,6 +1,7 @@
 // The walk over a text, one symbol at a time.
 use crate::act::Act;
 use crate::act::one_act;
+use crate::act::shuts;
 use lexer::token::Token;
 use lexer::token::token_from;
 ghost use mathlib.Core.Path.{_≡_};
@@ -11,7 +12,7 @@ ghost use Rattle.notation.specs.Stream.{start, want};
 ghost use Rattle.walker.specs.Acts.{entryOf, closing};
 ghost use Rattle.walker.specs.Steps.{shownAs, Steps};
 ghost use Rattle.walker.specs.Tells.{Tells};
-ghost use Rattle.walker.specs.Walks.{Walks, Begins, Nexts};
+ghost use Rattle.walker.specs.Walks.{Walks, Begins, Passing, Nexts};
 
 // mode: 0 before the first production, 1 where an item must begin, 2 behind a primary. height: how much is open, in the front of the stack. token: the next one.
 pub struct Walk {
@@ -133,6 +134,49 @@ pub fn inside(text: &[u8], at: usize) -> Walk
     }
 }
 
+// A walk past the `(` at its front, where an item must begin: acts that put out nothing, many at once.
+fn past_open(text: &[u8], stack: &mut [u8; 65536], w: Walk) -> Walk
+    requires { ⌜ (length (now stack) ≡ 65536) × (length (now text) ≤ 65535) × Walks (now text) w ⌝ }
+    ensures { λ r. ⌜ Passing (now (text .entry)) (now (stack .entry)) (now (stack .exit)) w r ⌝ }
+{
+    if w.mode != 1 {
+        return w;
+    }
+    let mut height = w.height;
+    let mut token = w.token;
+    while token.kind == 7 {
+        stack[height] = 0;
+        height += 1;
+        token = token_from(text, token.next);
+    }
+    Walk {
+        mode: w.mode,
+        height,
+        token,
+    }
+}
+
+// A walk past the `)` at its front, behind a primary, that close a `(`.
+fn past_shut(text: &[u8], stack: &[u8; 65536], w: Walk) -> Walk
+    requires { ⌜ (length (now text) ≤ 65535) × Walks (now text) w ⌝ }
+    ensures { λ r. ⌜ Passing (now (text .entry)) (now (stack .entry)) (now (stack .entry)) w r ⌝ }
+{
+    if w.mode != 2 {
+        return w;
+    }
+    let mut height = w.height;
+    let mut token = w.token;
+    while shuts(stack, height, token.kind) {
+        height -= 1;
+        token = token_from(text, token.next);
+    }
+    Walk {
+        mode: w.mode,
+        height,
+        token,
+    }
+}
+
 // The next symbol of a walk, past the acts that put out none.
 pub fn next(text: &[u8], stack: &mut [u8; 65536], w: Walk) -> Step
     requires { ⌜ (length (now stack) ≡ 65536) × (length (now text) ≤ 65535) × Walks (now text) w ⌝ }
@@ -144,7 +188,8 @@ pub fn next(text: &[u8], stack: &mut [u8; 65536], w: Walk) -> Step
         if s.symbol != 30 {
             return s;
         }
-        v = s.walk;
+        let u = past_open(text, stack, s.walk);
+        v = past_shut(text, stack, u);
     }
 }
 
