@@ -1,96 +1,66 @@
 // What stands behind a place.
+use crate::before::later;
+use chars::written::char_at;
 
-// The byte right behind a place; 0 at the text's end.
-pub fn second(text: &[u8], at: usize) -> u8 {
+// The byte that is so many behind a place; 0 where the text has none.
+pub fn ahead(text: &[u8], at: usize, n: usize) -> u8 {
     if text.len() <= at {
         return 0;
     }
-    if text.len() - at < 2 {
+    if text.len() - at <= n {
         return 0;
     }
-    text[at + 1]
+    text[at + n]
 }
 
-// Whether what begins at the place is closed by this mark on its line. A byte behind a `\` closes nothing, and no more does the first one.
-pub fn closes(text: &[u8], at: usize, mark: u8) -> bool {
-    let mut passed = true;
-    let mut i = at;
+// Of quoted text or a class: no mark closes it on its line; it is closed; it is closed, and has a `\` that is no escape.
+pub const UNCLOSED: u8 = b'u';
+
+pub const CLOSED: u8 = b'c';
+
+pub const ESCAPES: u8 = b'e';
+
+pub fn ends(text: &[u8], at: usize, mark: u8) -> u8 {
+    if text.len() <= at {
+        return UNCLOSED;
+    }
+    let mut found = CLOSED;
+    let mut i = at + 1;
     while i < text.len() {
         let b = text[i];
         if ends_line(b) {
-            return false;
+            return UNCLOSED;
         }
-        if is_mark(b, mark, passed) {
-            return true;
+        if b == mark {
+            return found;
         }
-        passed = passes(b, passed);
-        i += 1;
+        let c = char_at(text, i);
+        found = with(found, c.byte);
+        i = later(i + 1, c.next);
     }
-    false
+    UNCLOSED
 }
 
 fn ends_line(b: u8) -> bool {
-    match b {
-        b'\n' | b'\r' => true,
-        _ => false,
-    }
+    b == b'\n' || b == b'\r'
 }
 
-fn is_mark(b: u8, mark: u8, passed: bool) -> bool {
-    if passed {
-        return false;
+// 256 is no byte.
+fn with(found: u8, byte: u16) -> u8 {
+    if byte == 256 {
+        return ESCAPES;
     }
-    b == mark
+    found
 }
 
-fn passes(b: u8, passed: bool) -> bool {
-    if passed {
-        return false;
-    }
-    b == b'\\'
-}
-
-// The byte behind a name and the blanks behind it; 0 at the text's end.
-pub fn behind(text: &[u8], at: usize) -> u8 {
-    let end = past_blanks(text, past_name(text, at));
-    if text.len() <= end {
-        return 0;
-    }
-    text[end]
-}
-
-pub fn past_name(text: &[u8], at: usize) -> usize {
-    let mut i = at;
+// The first place from this one on that has the byte, or the text's end.
+pub fn find(text: &[u8], from: usize, b: u8) -> usize {
+    let mut i = from;
     while i < text.len() {
-        if ends_name(text[i]) {
+        if text[i] == b {
             return i;
         }
         i += 1;
     }
     i
-}
-
-fn ends_name(b: u8) -> bool {
-    match b {
-        b'A'..=b'Z' | b'a'..=b'z' | b'0'..=b'9' | b'_' => false,
-        _ => true,
-    }
-}
-
-fn past_blanks(text: &[u8], at: usize) -> usize {
-    let mut i = at;
-    while i < text.len() {
-        if ends_blanks(text[i]) {
-            return i;
-        }
-        i += 1;
-    }
-    i
-}
-
-fn ends_blanks(b: u8) -> bool {
-    match b {
-        b' ' | b'\t' | b'\n' | b'\r' => false,
-        _ => true,
-    }
 }

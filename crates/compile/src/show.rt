@@ -1,114 +1,104 @@
 // How a line is shown, with its place.
-use crate::line::Line;
+use crate::line::follows;
+use crate::look::ahead;
+use crate::look::find;
 use libc::STDERR_FILENO;
 
-// The line, and below it a mark under the place. Of a line over 160 bytes only the part around the place is shown, and of an empty one nothing.
-pub fn show(text: &[u8], line: Line, at: usize) {
-    let from = shown_from(line, at);
-    let to = shown_to(line, from);
-    if text.len() < to {
-        return;
-    }
+// The line, and below it a mark under the place. What is over 80 bytes before the place or behind it is left out. Of an empty line nothing is shown.
+pub fn show(text: &[u8], offset: usize, at: usize) {
+    let from = back(at, up_to(80, 0, offset));
+    let end = find(text, at, b'\n');
+    let to = up_to(80, at, end);
     if to <= from {
         return;
     }
-    let shown = &text[from..to];
-    say(b"    ");
-    cut(b"..", line.start, from);
-    put(shown);
-    cut(b"..", to, line.end);
+    let mark = dot(offset);
+    say(&[b' ', b' ', mark, mark]);
+    put(text, from, to, false);
+    cut(to, end);
     say(b"\n    ");
-    cut(b"  ", line.start, from);
-    under(shown, from, at);
+    put(text, from, at, true);
     say(b"^\n");
 }
 
-// The whole of a short line, and of a long one 80 bytes before the place.
-fn shown_from(line: Line, at: usize) -> usize {
-    let start = line.start;
-    let end = line.end;
-    if end < start {
-        return start;
+fn back(at: usize, n: usize) -> usize {
+    if at < n {
+        return 0;
     }
-    if end - start <= 160 {
-        return start;
-    }
-    if at < start {
-        return start;
-    }
-    if at - start <= 80 {
-        return start;
-    }
-    at - 80
+    at - n
 }
 
-fn shown_to(line: Line, from: usize) -> usize {
-    let end = line.end;
+// The end, or where so many bytes end.
+pub fn up_to(most: usize, from: usize, end: usize) -> usize {
     if end < from {
         return end;
     }
-    if end - from <= 160 {
+    if end - from <= most {
         return end;
     }
-    from + 160
+    from + most
 }
 
 pub fn say(words: &[u8]) {
     io::write_all(STDERR_FILENO, words);
 }
 
-// These words where something is left out between the two places.
-pub fn cut(words: &[u8], from: usize, to: usize) {
+pub fn part(text: &[u8], from: usize, to: usize) {
+    if text.len() < to {
+        return;
+    }
+    if to < from {
+        return;
+    }
+    say(&text[from..to]);
+}
+
+// Dots where something is left out between the two places.
+pub fn cut(from: usize, to: usize) {
     if from < to {
-        say(words);
+        say(b"..");
     }
 }
 
-fn put(shown: &[u8]) {
-    let mut i = 0;
-    while i < shown.len() {
-        plain(shown[i]);
+fn dot(offset: usize) -> u8 {
+    if 80 < offset {
+        return b'.';
+    }
+    b' '
+}
+
+// The bytes between two places, or the blanks below them.
+fn put(text: &[u8], from: usize, to: usize, below: bool) {
+    let mut i = from;
+    while i < to {
+        one(glyph(ahead(text, i, 0), below));
         i += 1;
     }
 }
 
-// A byte that moves the cursor is shown as a question mark.
-fn plain(b: u8) {
+fn one(b: u8) {
+    if b != 0 {
+        say(&[b]);
+    }
+}
+
+// A control byte is shown as a question mark, but a carriage return not at all; a tab stays one, also below, so that the mark comes under its place.
+fn glyph(b: u8, below: bool) -> u8 {
     if b == b'\t' {
-        say(b"\t");
-        return;
+        return b;
     }
-    if b < 32 {
-        say(b"?");
-        return;
+    if b == b'\r' || below && follows(b) {
+        return 0;
     }
-    if b == 127 {
-        say(b"?");
-        return;
+    if below {
+        return b' ';
     }
-    say(&[b]);
+    if hidden(b) {
+        return b'?';
+    }
+    b
 }
 
-// As many blanks as there are columns before the place.
-fn under(shown: &[u8], from: usize, at: usize) {
-    let mut i = 0;
-    while i < shown.len() {
-        if at <= from {
-            return;
-        }
-        if at - from <= i {
-            return;
-        }
-        blank(shown[i]);
-        i += 1;
-    }
-}
-
-// A tab stays one, so that the mark comes under its place. The second byte of a letter beyond ASCII, and those behind it, take no column.
-fn blank(b: u8) {
-    match b {
-        b'\t' => say(b"\t"),
-        128..=191 => {}
-        _ => say(b" "),
-    }
+pub fn hidden(b: u8) -> bool {
+    b < 32 || b == 127
 }

@@ -1,24 +1,26 @@
 -- `put` is safe and ends: what is left of the line falls.
 use Prim.Native.Nat.{_≤_, _+_, _-_}
-use lib.ListN.{length}
 use borrow.Author.Needs.{needs}
 use Rattle.compile.proofs.show.put.Statement.{statement}
 use Rattle.compile.proofs.show.put.Tie as tie
 
 abbrev Inv-loop : tie.InvT-loop
-Inv-loop shown i₀ i = 0 ≤ i
+Inv-loop text from to below i₀ i = from ≤ from
 
 abbrev μ-loop : tie.MeasureT-loop
-μ-loop shown i₀ i = length shown - i
+μ-loop text from to below i₀ i = to - i
 
 loop-holds : tie.Need-loop-holds Inv-loop μ-loop
 loop-holds c = search needs
 
-shared-slice-read-plain : tie.Need-shared-slice-read-plain Inv-loop μ-loop
-shared-slice-read-plain c = search needs
+ahead-requires : tie.Need-ahead-requires Inv-loop μ-loop
+ahead-requires c κs = search needs
 
-plain-requires : tie.Need-plain-requires Inv-loop μ-loop
-plain-requires c κs = search needs
+glyph-requires : tie.Need-glyph-requires Inv-loop μ-loop
+glyph-requires c κs = search needs
+
+one-requires : tie.Need-one-requires Inv-loop μ-loop
+one-requires c κs = search needs
 
 add-i : tie.Need-add-i Inv-loop μ-loop
 add-i c = search needs
@@ -39,8 +41,9 @@ put-spec =
     Inv-loop
     μ-loop
     loop-holds
-    shared-slice-read-plain
-    plain-requires
+    ahead-requires
+    glyph-requires
+    one-requires
     add-i
     loop-less
     loop-again
