@@ -8,7 +8,7 @@ use mathlib.Core.Logic.{◌⊎◌, inl, inr}
 use lib.Dec.{eqb, leb}
 use borrow.Author.Tests.{ne_eqb, eqb-true, eqb-false, le-leb, leb-true, lt-ltb, le-ltb}
 use Rattle.format.specs.Reading.{pick}
-use Rattle.notation.specs.Bytes.{hexDigit, escape}
+use Rattle.notation.specs.Bytes.{hex_digit, escape}
 use Rattle.chars.specs.Meant.{below}
 
 -- ## Numbers below a bound
@@ -18,9 +18,9 @@ module _ (bound n : ℕ) where
   unfolding below
   is_below h = rw (lt-ltb n bound h)
 
-  pub not-below : bound ≤ n → below bound n ≡ none
+  pub not_below : bound ≤ n → below bound n ≡ none
   unfolding below
-  not-below h = rw (le-ltb n bound h)
+  not_below h = rw (le-ltb n bound h)
 
 -- ## Hex digits
 
@@ -36,25 +36,25 @@ module _ (b : ℕ) where
   inside : (lo hi : ℕ) → lo ≤ b → b ≤ hi → pick (leb lo b) (leb b hi) false ≡ true
   inside lo hi h k = rw (le-leb lo b h, le-leb b hi k)
 
-  pub digit : {n : ℕ} → 48 ≤ b → b ≤ 57 → n ≡ b - 48 → hexDigit b ≡ below 16 n
+  pub digit : {n : ℕ} → 48 ≤ b → b ≤ 57 → n ≡ b - 48 → hex_digit b ≡ below 16 n
   digit h k e = rw (inside 48 57 h k, e) (sym (is_below 16 _ (omega arith)))
 
-  pub capital : {n : ℕ} → 65 ≤ b → b ≤ 70 → n ≡ b - 65 + 10 → hexDigit b ≡ below 16 n
+  pub capital : {n : ℕ} → 65 ≤ b → b ≤ 70 → n ≡ b - 65 + 10 → hex_digit b ≡ below 16 n
   capital h k e = rw (outside 48 57 (λ x y. omega arith), inside 65 70 h k, e) (sym (is_below 16 _ (omega arith)))
 
-  pub small : {n : ℕ} → 97 ≤ b → b ≤ 102 → n ≡ b - 97 + 10 → hexDigit b ≡ below 16 n
+  pub small : {n : ℕ} → 97 ≤ b → b ≤ 102 → n ≡ b - 97 + 10 → hex_digit b ≡ below 16 n
   small h k e = rw (outside 48 57 (λ x y. omega arith), outside 65 70 (λ x y. omega arith), inside 97 102 h k, e) (sym (is_below 16 _ (omega arith)))
 
-  pub no_digit : (48 ≤ b → b ≤ 57 → ⊥) → (65 ≤ b → b ≤ 70 → ⊥) → (97 ≤ b → b ≤ 102 → ⊥) → hexDigit b ≡ below 16 16
+  pub no_digit : (48 ≤ b → b ≤ 57 → ⊥) → (65 ≤ b → b ≤ 70 → ⊥) → (97 ≤ b → b ≤ 102 → ⊥) → hex_digit b ≡ below 16 16
   unfolding below
   no_digit h k l = rw (outside 48 57 h, outside 65 70 k, outside 97 102 l)
 
 -- ## Escapes
 
 module _ {b : ℕ} where
-  pub line-feed : b ≡ 110 → escape b ≡ below 256 10
+  pub line_feed : b ≡ 110 → escape b ≡ below 256 10
   unfolding below
-  line-feed e = rw e
+  line_feed e = rw e
 
   pub return : b ≡ 114 → escape b ≡ below 256 13
   unfolding below
@@ -65,11 +65,11 @@ module _ {b : ℕ} where
   tab e = rw e
 
   -- A quote or a `-`; what is from `[` to `^`.
-  pub quote-or-dash : (b ≡ 34) ⊎ ((b ≡ 39) ⊎ (b ≡ 45)) → escape b ≡ below 256 b
+  pub quote_or_dash : (b ≡ 34) ⊎ ((b ≡ 39) ⊎ (b ≡ 45)) → escape b ≡ below 256 b
   unfolding below
-  quote-or-dash (inl e) = rw e
-  quote-or-dash (inr (inl e)) = rw e
-  quote-or-dash (inr (inr e)) = rw e
+  quote_or_dash (inl e) = rw e
+  quote_or_dash (inr (inl e)) = rw e
+  quote_or_dash (inr (inr e)) = rw e
 
   pub bracket : 91 ≤ b → b ≤ 94 → escape b ≡ below 256 b
   unfolding below
@@ -82,11 +82,11 @@ module _ {b : ℕ} where
       go false false false x y z =
           let p = eqb-false b 91 x in let q = eqb-false b 92 y in let r = eqb-false b 93 z in let e : b ≡ 94 = omega arith in rw e
 
-  pub no-escape :
+  pub no_escape :
       (b ≡ 110 → ⊥) → (b ≡ 114 → ⊥) → (b ≡ 116 → ⊥) → ((b ≡ 34) ⊎ ((b ≡ 39) ⊎ (b ≡ 45)) → ⊥) → (91 ≤ b → b ≤ 94 → ⊥)
       → escape b ≡ below 256 256
   unfolding below
-  no-escape n r t q o =
+  no_escape n r t q o =
       rw (
         ne_eqb b 110 n,
         ne_eqb b 114 r,

@@ -10,7 +10,7 @@ use lib.ListN.{length, drop, get_or}
 use borrow.Author.Tests.{leb-true, leb-false, ltb-true, ltb-false}
 use Rattle.notation.specs.Lexer.{Piece, piece, no, ◌then◌, ◌∷ᵖ◌, fresh, quote, begin, parts}
 use Rattle.notation.specs.LexicalText.{no_way}
-use Rattle.notation.specs.At.{value, quotedOf, parts_of}
+use Rattle.notation.specs.At.{value, quoted_of, parts_of}
 use Rattle.chars.specs.declared.written.End.TheVariants.{Behind}
 use Rattle.chars.specs.CharLaws.{Row}
 use Rattle.chars.specs.Meant.{Reads, Ends, There}
@@ -21,33 +21,33 @@ abbrev behind : {A : Type 0} → Piece A → Option (List ℕ)
 behind (piece x r) = some r
 behind no = none
 
-behind-cons : {A : Type 0} (x : A) (o : Piece (List A)) → behind (x ∷ᵖ o) ≡ behind o
+behind_cons : {A : Type 0} (x : A) (o : Piece (List A)) → behind (x ∷ᵖ o) ≡ behind o
 unfolding ◌∷ᵖ◌
-behind-cons x (piece xs r) = refl
-behind-cons x no = refl
+behind_cons x (piece xs r) = refl
+behind_cons x no = refl
 
-is-piece : {A : Type 0} (o : Piece (List A)) {r : List ℕ} → behind o ≡ some r → o ≡ piece (value o) r
-is-piece (piece x r) e = ap (piece x) (cc)
-is-piece no e = no_way (cc)
+is_piece : {A : Type 0} (o : Piece (List A)) {r : List ℕ} → behind o ≡ some r → o ≡ piece (value o) r
+is_piece (piece x r) e = ap (piece x) (cc)
+is_piece no e = no_way (cc)
 
-is-none : {A : Type 0} (o : Piece (List A)) → behind o ≡ none → o ≡ no
-is-none (piece x r) e = no_way (cc)
-is-none no e = refl
+is_none_lem : {A : Type 0} (o : Piece (List A)) → behind o ≡ none → o ≡ no
+is_none_lem (piece x r) e = no_way (cc)
+is_none_lem no e = refl
 
-there-cons : {A : Type 0} (x : A) (o : Piece (List A)) → There (x ∷ᵖ o) → There o
+there_cons : {A : Type 0} (x : A) (o : Piece (List A)) → There (x ∷ᵖ o) → There o
 unfolding ◌∷ᵖ◌
-there-cons x (piece xs r) t = record { what = xs; rest = r; is = refl }
-there-cons x no t = let z = t.is in no_way (cc)
+there_cons x (piece xs r) t = record { what = xs; rest = r; is = refl }
+there_cons x no t = let z = t.is in no_way (cc)
 
-value-cons : {A : Type 0} (x : A) (o : Piece (List A)) → There o → value (x ∷ᵖ o) ≡ x ∷ value o
+value_cons : {A : Type 0} (x : A) (o : Piece (List A)) → There o → value (x ∷ᵖ o) ≡ x ∷ value o
 unfolding ◌∷ᵖ◌
-value-cons x (piece xs r) t = refl
-value-cons x no t = let z = t.is in no_way (cc)
+value_cons x (piece xs r) t = refl
+value_cons x no t = let z = t.is in no_way (cc)
 
 module _ {A : Type 0} {one : List ℕ → Piece A} {stop : ℕ} {row : List ℕ → Piece (List A)} (law : Row one stop row) (text : List ℕ) where
   module _ (i : ℕ) where
-    row-over : length text ≤ i → row (drop i text) ≡ no
-    row-over h = ap row (over text i h) ∙ law.over
+    row_over : length text ≤ i → row (drop i text) ≡ no
+    row_over h = ap row (over text i h) ∙ law.over
 
     module _ (h : i < length text) where
       row_ends : get_or text i 0 ≡ stop → row (drop i text) ≡ piece [] (drop (i + 1) text)
@@ -58,9 +58,9 @@ module _ {A : Type 0} {one : List ℕ → Piece A} {stop : ℕ} {row : List ℕ 
         row_next = rw (front text i h) (law.on (get_or text i 0) (drop (i + 1) text) k)
 
         module _ {m : ℕ} {x : A} {n : ℕ} (r : Reads (one (drop i text)) m x text i n) where
-          row-fails : m ≡ 256 → row (drop i text) ≡ no
+          row_fails : m ≡ 256 → row (drop i text) ≡ no
           unfolding ◌then◌
-          row-fails z = row_next ∙ rw (r.missing z)
+          row_fails z = row_next ∙ rw (r.missing z)
 
           row_on : m < 256 → row (drop i text) ≡ (x ∷ᵖ row (drop n text))
           unfolding ◌then◌
@@ -72,21 +72,21 @@ module _ {A : Type 0} {one : List ℕ → Piece A} {stop : ℕ} {row : List ℕ 
     not_none : row (drop i text) ≡ no → {B : Type 0} → B
     not_none e = let z = t.is in no_way (cc)
 
-    pub there-inside : i < length text
-    there-inside = go (leb (length text) i) refl
+    pub there_inside : i < length text
+    there_inside = go (leb (length text) i) refl
       where
         go : (b : Bool) → leb (length text) i ≡ b → i < length text
-        go true e = not_none (row-over i (leb-true (length text) i e))
+        go true e = not_none (row_over i (leb-true (length text) i e))
         go false e = leb-false (length text) i e
 
-    pub there-ends : get_or text i 0 ≡ stop → value (row (drop i text)) ≡ []
-    there-ends e = ap value (row_ends i there-inside e)
+    pub there_ends : get_or text i 0 ≡ stop → value (row (drop i text)) ≡ []
+    there_ends e = ap value (row_ends i there_inside e)
 
     module _ (k : get_or text i 0 ≡ stop → ⊥) where
       -- One more stands here at least.
-      pub there-some : (x : A) × (xs : List A) × (value (row (drop i text)) ≡ x ∷ xs)
+      pub there_some : (x : A) × (xs : List A) × (value (row (drop i text)) ≡ x ∷ xs)
       unfolding ◌then◌ ◌∷ᵖ◌
-      there-some = go (one (drop i text)) (row_next i there-inside k)
+      there_some = go (one (drop i text)) (row_next i there_inside k)
         where
           rest : (x : A) (o : Piece (List A)) → row (drop i text) ≡ (x ∷ᵖ o) → (x : A) × (xs : List A) × (value (row (drop i text)) ≡ x ∷ xs)
           rest x (piece xs r) e = (x, xs, ap value e)
@@ -97,20 +97,20 @@ module _ {A : Type 0} {one : List ℕ → Piece A} {stop : ℕ} {row : List ℕ 
           go no e = not_none e
 
       module _ {m : ℕ} {x : A} {n : ℕ} (r : Reads (one (drop i text)) m x text i n) where
-        pub there-reads : m < 256
-        there-reads = go (ltb m 256) refl
+        pub there_reads : m < 256
+        there_reads = go (ltb m 256) refl
           where
             go : (b : Bool) → ltb m 256 ≡ b → m < 256
             go true e = ltb-true m 256 e
-            go false e = let l = ltb-false m 256 e in let s = r.small in not_none (row-fails i there-inside k r (omega arith))
+            go false e = let l = ltb-false m 256 e in let s = r.small in not_none (row_fails i there_inside k r (omega arith))
 
-        pub there-on : There (row (drop n text))
-        there-on =
-            there-cons x (row (drop n text))
-            (record { what = t.what; rest = t.rest; is = sym (row_on i there-inside k r there-reads) ∙ t.is })
+        pub there_on : There (row (drop n text))
+        there_on =
+            there_cons x (row (drop n text))
+            (record { what = t.what; rest = t.rest; is = sym (row_on i there_inside k r there_reads) ∙ t.is })
 
-        pub there-value : value (row (drop i text)) ≡ x ∷ value (row (drop n text))
-        there-value = ap value (row_on i there-inside k r there-reads) ∙ value-cons x (row (drop n text)) there-on
+        pub there_value : value (row (drop i text)) ≡ x ∷ value (row (drop n text))
+        there_value = ap value (row_on i there_inside k r there_reads) ∙ value_cons x (row (drop n text)) there_on
 
   -- ## On the way through a row
 
@@ -134,44 +134,44 @@ module _ {A : Type 0} {one : List ℕ → Piece A} {stop : ℕ} {row : List ℕ 
 module _ {A : Type 0} {one : List ℕ → Piece A} {stop : ℕ} {row : List ℕ → Piece (List A)} {law : Row one stop row} {text : List ℕ} where
   module _ {from i : ℕ} (p : Passed law text from i) where
     module _ (h : i < length text) where
-      pub passed-ends : get_or text i 0 ≡ stop → Ends (row (drop from text)) (value (row (drop from text))) text from (Behind (i + 1))
-      passed-ends e = (is-piece (row (drop from text)) (p.rest ∙ ap behind (row_ends law text i h e)), omega arith, omega arith)
+      pub passed_ends : get_or text i 0 ≡ stop → Ends (row (drop from text)) (value (row (drop from text))) text from (Behind (i + 1))
+      passed_ends e = (is_piece (row (drop from text)) (p.rest ∙ ap behind (row_ends law text i h e)), omega arith, omega arith)
 
       module _ (k : get_or text i 0 ≡ stop → ⊥) {m : ℕ} {x : A} {n : ℕ} (r : Reads (one (drop i text)) m x text i n) where
-        pub passed-fails : m ≡ 256 → row (drop from text) ≡ no
-        passed-fails z = is-none (row (drop from text)) (p.rest ∙ ap behind (row-fails law text i h k r z))
+        pub passed_fails : m ≡ 256 → row (drop from text) ≡ no
+        passed_fails z = is_none_lem (row (drop from text)) (p.rest ∙ ap behind (row_fails law text i h k r z))
 
         pub passed_on : m < 256 → Passed law text from n
         passed_on z = record {
           on = let l = r.onward z in omega arith;
-          rest = p.rest ∙ ap behind (row_on law text i h k r z) ∙ behind-cons x (row (drop n text));
+          rest = p.rest ∙ ap behind (row_on law text i h k r z) ∙ behind_cons x (row (drop n text));
         }
 
     pub passed_over : length text ≤ i → row (drop from text) ≡ no
-    passed_over h = is-none (row (drop from text)) (p.rest ∙ ap behind (row-over law text i h))
+    passed_over h = is_none_lem (row (drop from text)) (p.rest ∙ ap behind (row_over law text i h))
 
   module _ {whole : List A} {i n : ℕ} (c : Counted law text whole i n) where
-    pub counted-inside : i < length text
-    counted-inside = there-inside law text i c.there
+    pub counted_inside : i < length text
+    counted_inside = there_inside law text i c.there
 
-    pub counted-all : get_or text i 0 ≡ stop → n ≡ length whole
-    counted-all e = let z = ap length (there-ends law text i c.there e) in let w = c.rest in omega arith
+    pub counted_all : get_or text i 0 ≡ stop → n ≡ length whole
+    counted_all e = let z = ap length (there_ends law text i c.there e) in let w = c.rest in omega arith
 
     module _ (k : get_or text i 0 ≡ stop → ⊥) {m : ℕ} {x : A} {o : ℕ} (r : Reads (one (drop i text)) m x text i o) where
-      pub counted-onward : i < o
-      counted-onward = r.onward (there-reads law text i c.there k r)
+      pub counted_onward : i < o
+      counted_onward = r.onward (there_reads law text i c.there k r)
 
-      pub counted-on : Counted law text whole o (n + 1)
-      counted-on =
-          let z = ap length (there-value law text i c.there k r) in let w = c.rest in
-          let l = counted-onward in record { there = there-on law text i c.there k r; few = omega (arith, c.few); rest = omega arith }
+      pub counted_on : Counted law text whole o (n + 1)
+      counted_on =
+          let z = ap length (there_value law text i c.there k r) in let w = c.rest in
+          let l = counted_onward in record { there = there_on law text i c.there k r; few = omega (arith, c.few); rest = omega arith }
 
 -- ## The rows that stand at a place
 
 module _ (text : List ℕ) (p : ℕ) (h : p < length text) where
-  pub quoted-is : quotedOf (drop p text) ≡ value (quote (get_or text p 0) fresh (drop (p + 1) text))
-  unfolding quotedOf
-  quoted-is = rw (front text p h)
+  pub quoted_is : quoted_of (drop p text) ≡ value (quote (get_or text p 0) fresh (drop (p + 1) text))
+  unfolding quoted_of
+  quoted_is = rw (front text p h)
 
   pub parts_are : parts_of (drop p text) ≡ value (parts begin fresh (drop (p + 1) text))
   unfolding parts_of

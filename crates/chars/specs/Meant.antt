@@ -4,7 +4,7 @@ use Rattle.std.proofs.Math.Option.{Option, some, none}
 use Rattle.format.specs.Reading.{pick}
 use Rattle.notation.specs.Tree as Tree
 use Rattle.notation.specs.Token.{leaf}
-use Rattle.notation.specs.Lexer.{Piece, piece, no, fresh, quote, range, begin, parts, classHere}
+use Rattle.notation.specs.Lexer.{Piece, piece, no, fresh, quote, range, begin, parts, class_here}
 use Rattle.notation.specs.At.{value, class_of}
 use Rattle.chars.specs.declared.class.Part.{Part}
 use Rattle.chars.specs.declared.written.Char.{Char}
@@ -46,7 +46,7 @@ abbrev pub PartsEnd : (text : List ℕ) (from : ℕ) → End → Type 0
 PartsEnd text from = Ends (parts begin fresh (drop from text)) (value (parts begin fresh (drop from text))) text from
 
 abbrev pub ClassEnds : (text : List ℕ) (from : ℕ) → End → Type 0
-ClassEnds text from = Ends (classHere (drop from text)) (leaf (class_of (value (parts begin fresh (drop from text))))) text from
+ClassEnds text from = Ends (class_here (drop from text)) (leaf (class_of (value (parts begin fresh (drop from text))))) text from
 
 -- A piece is there.
 pub record There {A : Type 0} (here : Piece A) : Type 0 where

@@ -3,7 +3,7 @@ ghost use Rattle.std.specs.Prelude.{◌≡◌, ◌≤◌, ◌<◌, drop, length}
 ghost use Rattle.notation.specs.Lexer.{same};
 ghost use Rattle.notation.specs.Symbols.{ends};
 ghost use Rattle.notation.specs.At.{parts_of};
-ghost use Rattle.chars.specs.Char.{ranges, up_to, charOf, part_of};
+ghost use Rattle.chars.specs.Char.{ranges, up_to, char_of, part_of};
 ghost use Rattle.chars.specs.Meant.{ReadsPart, PartsEnd, ClassEnds, ClassAt};
 
 use crate::written::{End, char_at};
@@ -41,7 +41,7 @@ fn ranges_at(text: &[u8], at: usize) -> bool
 // The range from a byte to the one that is written at a place.
 fn range_to(text: &[u8], lo: u16, at: usize) -> Part
     requires { lo < 256 }
-    ensures { ReadsPart (up_to lo (charOf (drop at text.now))) text.now at result }
+    ensures { ReadsPart (up_to lo (char_of (drop at text.now))) text.now at result }
 {
     let c = char_at(text, at);
     let hi = c.byte;

@@ -1,7 +1,7 @@
 // Quoted text.
 ghost use Rattle.std.specs.Prelude.{◌≡◌, drop, length};
 ghost use Rattle.notation.specs.Lexer.{same};
-ghost use Rattle.notation.specs.At.{quotedOf};
+ghost use Rattle.notation.specs.At.{quoted_of};
 ghost use Rattle.chars.specs.Meant.{QuoteEnds, QuotedAt};
 
 use crate::written::{End, char_at};
@@ -27,7 +27,7 @@ pub fn quote_end(text: &[u8], from: usize, mark: u8) -> End
 // Whether the quoted text at p stands for the same bytes as the one at q.
 pub fn same_quoted(text: &[u8], p: usize, q: usize) -> bool
     requires { QuotedAt text.now p × QuotedAt text.now q }
-    ensures { result ≡ same (quotedOf (drop p text.now)) (quotedOf (drop q text.now)) }
+    ensures { result ≡ same (quoted_of (drop p text.now)) (quoted_of (drop q text.now)) }
 {
     let a = text[p];
     let b = text[q];
@@ -51,7 +51,7 @@ pub fn same_quoted(text: &[u8], p: usize, q: usize) -> bool
 // How many bytes the quoted text at p stands for.
 pub fn quoted_length(text: &[u8], p: usize) -> usize
     requires { QuotedAt text.now p }
-    ensures { result ≡ length (quotedOf (drop p text.now)) }
+    ensures { result ≡ length (quoted_of (drop p text.now)) }
 {
     let mark = text[p];
     let mut i = p + 1;

@@ -1,7 +1,7 @@
 // A byte of quoted text or of a class, as it is written.
 ghost use Rattle.std.specs.Prelude.{◌≡◌, ◌≤◌, drop, length};
-ghost use Rattle.notation.specs.Bytes.{hexDigit, escape};
-ghost use Rattle.chars.specs.Char.{hexOf, escapedOf, charOf};
+ghost use Rattle.notation.specs.Bytes.{hex_digit, escape};
+ghost use Rattle.chars.specs.Char.{hex_of, escaped_of, char_of};
 ghost use Rattle.chars.specs.Meant.{below, ReadsByte};
 
 // byte: what is written; 256 where no byte is. next: the place behind it.
@@ -27,7 +27,7 @@ fn wide(b: u8) -> u16
 
 // What a hex digit stands for; 16 if it is none.
 fn hex_value(b: u8) -> u16
-    ensures { (hexDigit b ≡ below 16 result) × (result ≤ 16) }
+    ensures { (hex_digit b ≡ below 16 result) × (result ≤ 16) }
 {
     match b {
         b'0'..=b'9' => wide(b - b'0'),
@@ -63,7 +63,7 @@ fn missing(at: usize) -> Char
 // The byte that the two hex digits at a place stand for.
 fn hex_at(text: &[u8], at: usize) -> Char
     requires { at ≤ length text.now }
-    ensures { ReadsByte (hexOf (drop at text.now)) text.now at result }
+    ensures { ReadsByte (hex_of (drop at text.now)) text.now at result }
 {
     if text.len() - at < 2 {
         return missing(at);
@@ -81,7 +81,7 @@ fn hex_at(text: &[u8], at: usize) -> Char
 
 // The byte that the bytes behind a `\` stand for.
 fn escaped_at(text: &[u8], at: usize) -> Char
-    ensures { ReadsByte (escapedOf (drop at text.now)) text.now at result }
+    ensures { ReadsByte (escaped_of (drop at text.now)) text.now at result }
 {
     if text.len() <= at {
         return missing(at);
@@ -98,7 +98,7 @@ fn escaped_at(text: &[u8], at: usize) -> Char
 
 // The byte that is written at a place.
 pub fn char_at(text: &[u8], at: usize) -> Char
-    ensures { ReadsByte (charOf (drop at text.now)) text.now at result }
+    ensures { ReadsByte (char_of (drop at text.now)) text.now at result }
 {
     if text.len() <= at {
         return missing(at);

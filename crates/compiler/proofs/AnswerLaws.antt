@@ -15,10 +15,10 @@ use Rattle.notation.specs.LexicalText.{no_way}
 use Rattle.notation.specs.Compile.{compile}
 use Rattle.notation.specs.Lexer.{lexemes}
 use Rattle.notation.specs.Places.{namePlace}
-use Rattle.notation.specs.PlacesLaws.{is_none, image-place}
+use Rattle.notation.specs.PlacesLaws.{is_none, image_place}
 use Rattle.notation.specs.Judged.{Answer, good, refused, or_else}
 use Rattle.notation.specs.Said.{Says}
-use Rattle.notation.specs.SaidLaws.{refused-inside}
+use Rattle.notation.specs.SaidLaws.{refused_inside}
 use Rattle.naming.specs.Found.{found}
 use Rattle.naming.specs.GatheredLaws.{reading}
 use Rattle.naming.specs.declared.found.Found.{Found}
@@ -30,7 +30,7 @@ use Rattle.compiler.specs.declared.judge.Judgement.TheVariants as J
 use Rattle.compiler.specs.Compiles.{Compiles}
 use Rattle.compiler.specs.Images.{Lends}
 use Rattle.compiler.specs.Judges.{Passes, Judges}
-use Rattle.compiler.proofs.RuledLaws.{overImage, said-passed}
+use Rattle.compiler.proofs.RuledLaws.{over_image, said_passed}
 
 -- A refusal leaves the buffer as it is.
 pub refuses : {text before : List ℕ} {number p : ℕ} → Says text (length before) (refused number p) → Compiles text before before (Refused number p)
@@ -38,38 +38,38 @@ refuses {number = number} {p} s = record { says = (refused number p, s, (refl, r
 
 -- A judgement that refuses is given, and its place is in the text.
 module _ (text : List ℕ) {j : Judgement} {number p : ℕ} (is : Judges text j) (e : j ≡ J.Refused number p) where
-  pub judged-refuses : (before : List ℕ) → Compiles text before before (Refused number p)
-  judged-refuses before = refuses (subst (Judges text) e is (length before))
+  pub judged_refuses : (before : List ℕ) → Compiles text before before (Refused number p)
+  judged_refuses before = refuses (subst (Judges text) e is (length before))
 
-  pub judged-inside : p ≤ length text
-  judged-inside = refused-inside (subst (Judges text) e is 0)
+  pub judged_inside : p ≤ length text
+  judged_inside = refused_inside (subst (Judges text) e is 0)
 
 -- ## What is given where the rules let pass
 
 -- By what was found.
 module _ (name : Lexeme → ℕ) where
-  by-found :
+  by_found :
       (o : Option Lexeme) {f : Found} {q : ℕ} (later : Answer) → f ≡ found name o → f ≡ At q → or_else o (λ l. refused 24 (name l)) later ≡ refused 24 q
-  by-found none later e h = no_way (cc)
-  by-found (some l) {f} {q} later e h = let z : name l ≡ q = cc in ap (refused 24) z
+  by_found none later e h = no_way (cc)
+  by_found (some l) {f} {q} later e h = let z : name l ≡ q = cc in ap (refused 24) z
 
-  by-nothing : (o : Option Lexeme) {f : Found} → f ≡ found name o → f ≡ Nowhere → o ≡ none
-  by-nothing none e h = refl
-  by-nothing (some l) e h = no_way (cc)
+  by_nothing : (o : Option Lexeme) {f : Found} → f ≡ found name o → f ≡ Nowhere → o ≡ none
+  by_nothing none e h = refl
+  by_nothing (some l) e h = no_way (cc)
 
-module _ {text : List ℕ} (short : length text ≤ 65535) {ps : List Production} (p : Passes text ps) {f : Found} (e : f ≡ found (namePlace text) (overImage text ps)) where
+module _ {text : List ℕ} (short : length text ≤ 65535) {ps : List Production} (p : Passes text ps) {f : Found} (e : f ≡ found (namePlace text) (over_image text ps)) where
   -- The image is too long with a production.
-  pub over-said : {q : ℕ} → f ≡ At q → (room : ℕ) → Says text room (refused 24 q)
-  over-said h room = subst (Says text room) (by-found (namePlace text) (overImage text ps) _ e h) (said-passed short p room)
+  pub over_said : {q : ℕ} → f ≡ At q → (room : ℕ) → Says text room (refused 24 q)
+  over_said h room = subst (Says text room) (by_found (namePlace text) (over_image text ps) _ e h) (said_passed short p room)
 
   -- It is not too long.
   module _ (h : f ≡ Nowhere) where
-    nothing-over : overImage text ps ≡ none
-    nothing-over = by-nothing (namePlace text) (overImage text ps) e h
+    nothing_over : over_image text ps ≡ none
+    nothing_over = by_nothing (namePlace text) (over_image text ps) e h
 
-    pub image-short : length (encode (compile ps)) ≤ 16384
-    image-short =
-        leb-true (length (encode (compile ps))) 16384 (sym (image-place (lexemes text) (reading p.reading)) ∙ ap is_none nothing-over)
+    pub image_short : length (encode (compile ps)) ≤ 16384
+    image_short =
+        leb-true (length (encode (compile ps))) 16384 (sym (image_place (lexemes text) (reading p.reading)) ∙ ap is_none nothing_over)
 
     -- So it is lent, or there is no room for it.
     pub image_lent : (before after : List ℕ) (r : Compiled) → Lends (encode (compile ps)) before after r → Compiles text before after r
@@ -79,7 +79,7 @@ module _ {text : List ℕ} (short : length text ≤ 65535) {ps : List Production
         g = compile ps
 
         said : Says text (length before) (pick (leb (length (encode g)) (length before)) (good g) (refused 25 0))
-        said = rw nothing-over at (said-passed short p (length before))
+        said = rw nothing_over at (said_passed short p (length before))
 
         go : (r : Compiled) → Lends (encode g) before after r → Compiles text before after r
         go (Written n) l = record { says = (good g, rw (le-leb (length (encode g)) (length before) l.0) at said, (l.1, l.2)) }

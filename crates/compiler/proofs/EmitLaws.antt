@@ -7,17 +7,17 @@ use lib.ListN.{length, take, drop, get_or}
 use Rattle.notation.specs.Tree.{Production}
 use Rattle.notation.specs.Text.{ReadsAs}
 use Rattle.notation.specs.Compile.{count, compile}
-use Rattle.naming.specs.Sized.{nodesOf}
-use Rattle.emitter.specs.Emitted.{Ready, nodesUpTo, Emits}
+use Rattle.naming.specs.Sized.{nodes_of}
+use Rattle.emitter.specs.Emitted.{Ready, nodes_up_to, Emits}
 use Rattle.writer.specs.declared.node.Made.{Made}
 use Rattle.compiler.specs.Images.{Numbers, Makes}
-use Rattle.compiler.proofs.FewLaws.{listed-length, listed-tables, listed-switches}
-use Rattle.compiler.proofs.PartLaws.{part-front}
+use Rattle.compiler.proofs.FewLaws.{listed_length, listed_tables, listed_switches}
+use Rattle.compiler.proofs.PartLaws.{part_front}
 use Rattle.compiler.proofs.RuledLaws.{held}
 
 -- The nodes up to a production's end are those of the productions up to it.
-pub up_to : (k i : ℕ) (ps : List Production) → i < length ps → get_or (nodesUpTo k ps) i 0 ≡ k + nodesOf (take (suc i) ps)
-unfolding nodesUpTo
+pub up_to : (k i : ℕ) (ps : List Production) → i < length ps → get_or (nodes_up_to k ps) i 0 ≡ k + nodes_of (take (suc i) ps)
+unfolding nodes_up_to
 up_to k i [] h = absurd (omega arith)
 up_to k zero (p ∷ ps) h = omega arith
 up_to k (suc i) (p ∷ ps) h = omega (arith, up_to (k + count p.body) i ps (omega arith))
@@ -31,15 +31,15 @@ module _ {text heads roots tables switches : List ℕ} {start : ℕ} (n : Number
         productions = l.productions;
         reading = l.passes.reading;
         few_bytes = short;
-        few-nodes = h.few-nodes;
-        few-tables = listed-tables l;
-        few-switches = listed-switches l;
-        short-texts = h.short-texts;
-        all-defined = h.all-defined;
-        heads-are = l.heads-are;
-        roots-are = n.each;
-        tables-are = l.tables-are;
-        switches-are = l.switches-are;
+        few_nodes = h.few_nodes;
+        few_tables = listed_tables l;
+        few_switches = listed_switches l;
+        short_texts = h.short_texts;
+        all_defined_lem = h.all_defined_lem;
+        heads_are = l.heads_are;
+        roots_are = n.each;
+        tables_are = l.tables_are;
+        switches_are = l.switches_are;
       }
 
   -- The patterns came back in the front of an array.
@@ -49,12 +49,12 @@ module _ {text heads roots tables switches : List ℕ} {start : ℕ} (n : Number
       → Makes text (length switches) start out (take (length tables) (patterns ++ drop (length tables) whole)) ends r
   unfolding compile
   makes {patterns = patterns} whole h l e =
-      rw (part-front patterns whole h)
+      rw (part_front patterns whole h)
       (record {
         productions = n.lists.productions;
         passes = n.lists.passes;
-        switches-are = listed-length text switches n.lists.switches-are;
+        switches_are = listed_length text switches n.lists.switches_are;
         start_is = n.first;
-        ends-long = l;
+        ends_long = l;
         emits = e n.lists.productions n.lists.passes.reading;
       })

@@ -13,10 +13,10 @@ module _ (head nodes image : List ℕ) where
       rw (take-length head, z)
 
   -- The buffer then begins with both, and is as it was behind them.
-  pub pasted-both :
+  pub pasted_both :
       {mid after : List ℕ} → mid ≡ paste image 0 head (length head) → after ≡ paste mid (length head) nodes (length nodes)
       → after ≡ (head ++ nodes) ++ drop (length (head ++ nodes)) image
-  pasted-both {mid} e f =
+  pasted_both {mid} e f =
       let m : mid ≡ head ++ drop (length head) image = e ∙ first in
       f
       ∙ rw (

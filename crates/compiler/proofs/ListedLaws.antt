@@ -10,26 +10,26 @@ use Rattle.notation.specs.Token.{Token}
 use Rattle.notation.specs.At.{name_at}
 use Rattle.notation.specs.Lexer.{lexemes}
 use Rattle.index.specs.Listed.{Ascending}
-use Rattle.naming.specs.Gathered.{sortOf, gathered, Gathers}
-use Rattle.naming.specs.GatheredLaws.{gathered-bound, gathered-ascending}
+use Rattle.naming.specs.Gathered.{sort_of, gathered, Gathers}
+use Rattle.naming.specs.GatheredLaws.{gathered_bound, gathered_ascending}
 use Rattle.naming.specs.declared.gather.Gathered.{Gathered}
 use Rattle.writer.specs.Named.{names_of}
 
 -- An array of 32,768 places is enough for any sort.
-pub enough : (sort : ℕ) (text : List ℕ) → length text ≤ 65535 → length (gathered (sortOf sort) [] (lexemes text)) < 32768
-enough sort text h = omega (arith, gathered-bound sort text)
+pub enough : (sort : ℕ) (text : List ℕ) → length text ≤ 65535 → length (gathered (sort_of sort) [] (lexemes text)) < 32768
+enough sort text h = omega (arith, gathered_bound sort text)
 
 module _ {f : Token → List Name} {text at : List ℕ} {r : Gathered} (G : Gathers f text at r) where
   -- The places that count are there, in an array that was long enough.
   module _ {k : ℕ} (few : length (gathered f [] (lexemes text)) < k) (long : length at ≡ k) where
-    pub gathers-within : r.count ≤ length at
-    gathers-within = omega (arith, G.many)
+    pub gathers_within : r.count ≤ length at
+    gathers_within = omega (arith, G.many)
 
-    pub gathers-count : r.count ≡ length (take r.count at)
-    gathers-count = sym (length-take-le r.count at gathers-within)
+    pub gathers_count : r.count ≡ length (take r.count at)
+    gathers_count = sym (length-take-le r.count at gathers_within)
 
-  pub gathers-listed : names_of text (take r.count at) ≡ gathered f [] (lexemes text)
-  gathers-listed = ap (map (name_at text)) (take-length (take r.count at)) ∙ G.listed
+  pub gathers_listed : names_of text (take r.count at) ≡ gathered f [] (lexemes text)
+  gathers_listed = ap (map (name_at text)) (take-length (take r.count at)) ∙ G.listed
 
-  pub gathers-ascending : Ascending (names_of text (take r.count at))
-  gathers-ascending = rw gathers-listed (gathered-ascending f (lexemes text))
+  pub gathers_ascending : Ascending (names_of text (take r.count at))
+  gathers_ascending = rw gathers_listed (gathered_ascending f (lexemes text))

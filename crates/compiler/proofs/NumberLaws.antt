@@ -5,21 +5,21 @@ use native.Mathlib.Omega.{arith}
 use Rattle.grammar.specs.Grammar.{size}
 use Rattle.notation.specs.Tree.{Name, Production}
 use Rattle.notation.specs.Naming.{tables}
-use Rattle.notation.specs.Compile.{entry, roots, sorted, patternsAll, compile}
-use Rattle.notation.specs.BelowLaws.{size_is, entry-below, first_below, roots-below, patterns-below}
+use Rattle.notation.specs.Compile.{entry, roots, sorted, patterns_all, compile}
+use Rattle.notation.specs.BelowLaws.{size_is, entry_below, first_below, roots_below, patterns_below}
 use Rattle.writer.specs.Put.{AllSmall}
 
-map-small : (f : Name → ℕ) (ts : List Name) → ((t : Name) → f t < 513) → AllSmall (map f ts)
-map-small f [] h = tt
-map-small f (t ∷ ts) h = (omega (arith, h t), map-small f ts h)
+map_small : (f : Name → ℕ) (ts : List Name) → ((t : Name) → f t < 513) → AllSmall (map f ts)
+map_small f [] h = tt
+map_small f (t ∷ ts) h = (omega (arith, h t), map_small f ts h)
 
 module _ (ps : List Production) (few : size (compile ps) ≤ 512) where
   pub start_small : (compile ps).start < 16384
   unfolding compile
-  start_small = omega (arith, first_below 513 (omega arith) (roots 0 ps) (roots-below 513 0 ps (omega (arith, size_is ps))))
+  start_small = omega (arith, first_below 513 (omega arith) (roots 0 ps) (roots_below 513 0 ps (omega (arith, size_is ps))))
 
-  pub patterns-small : AllSmall (compile ps).patterns
+  pub patterns_small : AllSmall (compile ps).patterns
   unfolding compile
-  patterns-small =
-      map-small (λ t. entry t (patternsAll 0 ps)) (sorted (tables ps))
-      (λ t. entry-below 513 (omega arith) (patternsAll 0 ps) t (patterns-below 513 0 ps (omega (arith, size_is ps))))
+  patterns_small =
+      map_small (λ t. entry t (patterns_all 0 ps)) (sorted (tables ps))
+      (λ t. entry_below 513 (omega arith) (patterns_all 0 ps) t (patterns_below 513 0 ps (omega (arith, size_is ps))))

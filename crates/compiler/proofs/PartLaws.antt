@@ -12,22 +12,22 @@ use Rattle.naming.specs.declared.roots.Counted.{Counted}
 use Rattle.compiler.specs.Images.{Lists, Numbers}
 
 module _ (part whole : List ℕ) {n : ℕ} (long : length part ≡ n) where
-  pub part-front : take n (part ++ drop n whole) ≡ part
-  part-front = take_at part (drop n whole) n long
+  pub part_front : take n (part ++ drop n whole) ≡ part
+  part_front = take_at part (drop n whole) n long
 
-  pub part-within : n ≤ length (part ++ drop n whole)
-  part-within = omega (arith, length-append part (drop n whole))
+  pub part_within : n ≤ length (part ++ drop n whole)
+  part_within = omega (arith, length-append part (drop n whole))
 
   pub part_count : n ≡ length (take n (part ++ drop n whole))
-  part_count = sym (ap length part-front ∙ long)
+  part_count = sym (ap length part_front ∙ long)
 
 -- The front of a list that is known.
 module _ (whole : List ℕ) {front : List ℕ} {n : ℕ} (is : take n whole ≡ front) (long : n ≡ length front) where
-  pub front-count : n ≡ length (take n whole)
-  front-count = long ∙ sym (ap length is)
+  pub front_count : n ≡ length (take n whole)
+  front_count = long ∙ sym (ap length is)
 
-  pub front-within : n ≤ length whole
-  front-within = omega (arith, front-count, length-take n whole)
+  pub front_within : n ≤ length whole
+  front_within = omega (arith, front_count, length-take n whole)
 
 -- The nodes of productions, so.
 pub numbered :
@@ -36,4 +36,4 @@ pub numbered :
     → Numbers text heads (take (length heads) (part ++ drop (length heads) whole)) tables switches r.start
 numbered {part = part} whole l e f =
     let o = f l.productions l.passes.reading in
-    rw (part-front part whole e) (record { lists = l; each = o.each; first = o.start })
+    rw (part_front part whole e) (record { lists = l; each = o.each; first = o.start })

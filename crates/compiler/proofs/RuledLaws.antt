@@ -20,11 +20,11 @@ use Rattle.notation.specs.LexicalText.{no_way}
 use Rattle.notation.specs.Stream.{streamed}
 use Rattle.notation.specs.Reader.{trees, parsed}
 use Rattle.notation.specs.Text.{ReadsAs}
-use Rattle.notation.specs.TextLaws.{derived, lexes-once}
-use Rattle.notation.specs.Naming.{perLeaf, everywhere, all, allDefined, onceNamed, onePattern}
+use Rattle.notation.specs.TextLaws.{derived, lexes_once}
+use Rattle.notation.specs.Naming.{per_leaf, everywhere, all, all_defined, once_named, one_pattern}
 use Rattle.notation.specs.Compile.{compile}
-use Rattle.notation.specs.Places.{tokenPlace, namePlace, firstOver, imageUpTo, isHead, only}
-use Rattle.notation.specs.PlacesLaws.{is_none, defined-place, once-place, pattern-place, tables-place, conditions-place, texts-place, nodes-place}
+use Rattle.notation.specs.Places.{token_place, namePlace, firstOver, imageUpTo, isHead, only}
+use Rattle.notation.specs.PlacesLaws.{is_none, defined_place, once_place, pattern_place, tables_place, conditions_place, texts_place, nodes_place}
 use Rattle.notation.specs.Judged.{Answer, good, refused, or_else, judged}
 use Rattle.notation.specs.Said.{Says, unread, read}
 use Rattle.naming.specs.Found.{found}
@@ -34,7 +34,7 @@ use Rattle.walker.specs.declared.walk.Reading.{Reading}
 use Rattle.walker.specs.declared.walk.Reading.TheVariants.{Whole, Stopped}
 use Rattle.compiler.specs.declared.judge.Judgement.{Judgement}
 use Rattle.compiler.specs.declared.judge.Judgement.TheVariants.{Passed, Refused}
-use Rattle.compiler.specs.Judges.{refusal, ◌then◌, lacks, twice, differs, ninthTable, ninthSwitch, longText, overNodes, ruled, Passes, Judges}
+use Rattle.compiler.specs.Judges.{refusal, ◌then◌, lacks, twice, differs, ninth_table, ninth_switch, long_text, over_nodes, ruled, Passes, Judges}
 
 -- ## Judgements as answers
 
@@ -59,95 +59,95 @@ module _ (name token : Lexeme → ℕ) where
       (or_else d (λ l. refused 24 (name l))
       (or_else e (λ l. refused 24 (name l)) (or_else f (λ l. refused 24 (token l)) (or_else g (λ l. refused 24 (name l)) later))))))
 
-  searched-answers : (a b c d e f g : Option Lexeme) (later : Answer) → answers a b c d e f g later ≡ answered (searched a b c d e f g) later
-  searched-answers (some l) b c d e f g later = refl
-  searched-answers none (some l) c d e f g later = refl
-  searched-answers none none (some l) d e f g later = refl
-  searched-answers none none none (some l) e f g later = refl
-  searched-answers none none none none (some l) f g later = refl
-  searched-answers none none none none none (some l) g later = refl
-  searched-answers none none none none none none (some l) later = refl
-  searched-answers none none none none none none none later = refl
+  searched_answers : (a b c d e f g : Option Lexeme) (later : Answer) → answers a b c d e f g later ≡ answered (searched a b c d e f g) later
+  searched_answers (some l) b c d e f g later = refl
+  searched_answers none (some l) c d e f g later = refl
+  searched_answers none none (some l) d e f g later = refl
+  searched_answers none none none (some l) e f g later = refl
+  searched_answers none none none none (some l) f g later = refl
+  searched_answers none none none none none (some l) g later = refl
+  searched_answers none none none none none none (some l) later = refl
+  searched_answers none none none none none none none later = refl
 
   -- Where all pass, nothing was found.
-  searched-none :
+  searched_none :
       (a b c d e f g : Option Lexeme) → searched a b c d e f g ≡ Passed
       → (is_none a ≡ true) × (is_none b ≡ true) × (is_none c ≡ true) × (is_none d ≡ true) × (is_none e ≡ true) × (is_none f ≡ true) × (is_none g ≡ true)
-  searched-none (some l) b c d e f g q = no_way (cc)
-  searched-none none (some l) c d e f g q = no_way (cc)
-  searched-none none none (some l) d e f g q = no_way (cc)
-  searched-none none none none (some l) e f g q = no_way (cc)
-  searched-none none none none none (some l) f g q = no_way (cc)
-  searched-none none none none none none (some l) g q = no_way (cc)
-  searched-none none none none none none none (some l) q = no_way (cc)
-  searched-none none none none none none none none q = (refl, refl, refl, refl, refl, refl, refl)
+  searched_none (some l) b c d e f g q = no_way (cc)
+  searched_none none (some l) c d e f g q = no_way (cc)
+  searched_none none none (some l) d e f g q = no_way (cc)
+  searched_none none none none (some l) e f g q = no_way (cc)
+  searched_none none none none none (some l) f g q = no_way (cc)
+  searched_none none none none none none (some l) g q = no_way (cc)
+  searched_none none none none none none none (some l) q = no_way (cc)
+  searched_none none none none none none none none q = (refl, refl, refl, refl, refl, refl, refl)
 
 -- ## All that is said of a reading
 
 -- The production with which the image is too long.
-abbrev pub overImage : List ℕ → List Production → Option Lexeme
-overImage text ps = firstOver 16384 (imageUpTo (compile ps)) 0 ps (only isHead (lexemes text))
+abbrev pub over_image : List ℕ → List Production → Option Lexeme
+over_image text ps = firstOver 16384 (imageUpTo (compile ps)) 0 ps (only isHead (lexemes text))
 
 module _ (text : List ℕ) (ps : List Production) (room : ℕ) where
   -- What is left to be said where every rule before holds.
   abbrev pub imaged : Answer
   imaged =
-      or_else (overImage text ps) (λ l. refused 24 (namePlace text l))
+      or_else (over_image text ps) (λ l. refused 24 (namePlace text l))
       (pick (leb (length (encode (compile ps))) room) (good (compile ps)) (refused 25 0))
 
-  judged-ruled : judged text room ps (lexemes text) ≡ answered (ruled text ps) imaged
+  judged_ruled : judged text room ps (lexemes text) ≡ answered (ruled text ps) imaged
   unfolding judged ruled
-  judged-ruled =
-      searched-answers (namePlace text) (tokenPlace text) (lacks text ps) (twice text ps) (differs text ps) (ninthTable text ps) (ninthSwitch text ps)
-      (longText text ps) (overNodes text ps) imaged
+  judged_ruled =
+      searched_answers (namePlace text) (token_place text) (lacks text ps) (twice text ps) (differs text ps) (ninth_table text ps) (ninth_switch text ps)
+      (long_text text ps) (over_nodes text ps) imaged
 
 -- ## What holds where the rules let pass
 
 pub record Held (ps : List Production) : Type 0 where
-  pub all-defined : allDefined ps ≡ true
-  pub once-named : onceNamed ps ≡ true
-  pub one-pattern : onePattern ps ≡ true
-  pub few-tables : G.tables (compile ps) ≤ 8
-  pub few-conditions : (compile ps).conditions ≤ 8
-  pub short-texts : all (λ b. b) (everywhere (perLeaf short) ps) ≡ true
-  pub few-nodes : size (compile ps) ≤ 512
+  pub all_defined_lem : all_defined ps ≡ true
+  pub once_named_lem : once_named ps ≡ true
+  pub one_pattern_lem : one_pattern ps ≡ true
+  pub few_tables : G.tables (compile ps) ≤ 8
+  pub few_conditions : (compile ps).conditions ≤ 8
+  pub short_texts : all (λ b. b) (everywhere (per_leaf short) ps) ≡ true
+  pub few_nodes : size (compile ps) ≤ 512
 
 pub held : {text : List ℕ} {ps : List Production} → Passes text ps → Held ps
 unfolding ruled
 held {text} {ps} p =
     let n =
-    searched-none (namePlace text) (tokenPlace text) (lacks text ps) (twice text ps) (differs text ps) (ninthTable text ps) (ninthSwitch text ps)
-    (longText text ps) (overNodes text ps) p.passes in
+    searched_none (namePlace text) (token_place text) (lacks text ps) (twice text ps) (differs text ps) (ninth_table text ps) (ninth_switch text ps)
+    (long_text text ps) (over_nodes text ps) p.passes in
     let ls = lexemes text in
     let P : Productions (bare ls) ps = reading p.reading in
-    let a : allDefined ps ≡ true = sym (defined-place ls P) ∙ n.0 in
+    let a : all_defined ps ≡ true = sym (defined_place ls P) ∙ n.0 in
     record {
-      all-defined = a;
-      once-named = sym (once-place ls P) ∙ n.1;
-      one-pattern = sym (pattern-place ls P) ∙ n.2;
-      few-tables = leb-true (G.tables (compile ps)) 8 (sym (tables-place ls P a) ∙ n.3);
-      few-conditions = leb-true (compile ps).conditions 8 (sym (conditions-place ls P) ∙ n.4);
-      short-texts = sym (texts-place ls P) ∙ n.5;
-      few-nodes = leb-true (size (compile ps)) 512 (sym (nodes-place ls P) ∙ n.6);
+      all_defined_lem = a;
+      once_named_lem = sym (once_place ls P) ∙ n.1;
+      one_pattern_lem = sym (pattern_place ls P) ∙ n.2;
+      few_tables = leb-true (G.tables (compile ps)) 8 (sym (tables_place ls P a) ∙ n.3);
+      few_conditions = leb-true (compile ps).conditions 8 (sym (conditions_place ls P) ∙ n.4);
+      short_texts = sym (texts_place ls P) ∙ n.5;
+      few_nodes = leb-true (size (compile ps)) 512 (sym (nodes_place ls P) ∙ n.6);
     }
 
 -- ## What is said
 
 module _ {text : List ℕ} (short : length text ≤ 65535) where
-  said-ruled : {ps : List Production} (r : ReadsAs text ps) (room : ℕ) → Says text room (answered (ruled text ps) (imaged text ps room))
-  said-ruled {ps} r room =
-      subst (Says text room) (ap (judged text room ps) (sym (lexes-once r.lexes)) ∙ judged-ruled text ps room) (read short r)
+  said_ruled : {ps : List Production} (r : ReadsAs text ps) (room : ℕ) → Says text room (answered (ruled text ps) (imaged text ps room))
+  said_ruled {ps} r room =
+      subst (Says text room) (ap (judged text room ps) (sym (lexes_once r.lexes)) ∙ judged_ruled text ps room) (read short r)
 
-  pub said-passed : {ps : List Production} → Passes text ps → (room : ℕ) → Says text room (imaged text ps room)
-  said-passed {ps} p room = rw p.passes at (said-ruled p.reading room)
+  pub said_passed : {ps : List Production} → Passes text ps → (room : ℕ) → Says text room (imaged text ps room)
+  said_passed {ps} p room = rw p.passes at (said_ruled p.reading room)
 
-  pub stopped-said : {r : Reading} {p : ℕ} → Tells text r → r ≡ Stopped p → (room : ℕ) → Says text room (refused 20 p)
-  stopped-said t e room = unread short (subst (Tells text) e t).1
+  pub stopped_said : {r : Reading} {p : ℕ} → Tells text r → r ≡ Stopped p → (room : ℕ) → Says text room (refused 20 p)
+  stopped_said t e room = unread short (subst (Tells text) e t).1
 
-  pub whole-said :
+  pub whole_said :
       (j : Judgement) {r : Reading} → Tells text r → r ≡ Whole → ((ps : List Production) → ReadsAs text ps → j ≡ ruled text ps) → Judges text j
   unfolding parsed
-  whole-said j t e f = go j refl
+  whole_said j t e f = go j refl
     where
       ps : List Production
       ps = trees (streamed (tokens text))
@@ -157,4 +157,4 @@ module _ {text : List ℕ} (short : length text ≤ 65535) where
 
       go : (i : Judgement) → j ≡ i → Judges text i
       go Passed q = (ps, record { reading = reading; passes = sym (f ps reading) ∙ q })
-      go (Refused number p) q = λ room. rw (sym (f ps reading) ∙ q) at (said-ruled reading room)
+      go (Refused number p) q = λ room. rw (sym (f ps reading) ∙ q) at (said_ruled reading room)

@@ -5,7 +5,7 @@ use Rattle.notation.specs.Naming.{names, conditions}
 use Rattle.notation.specs.Naming as Naming
 use Rattle.notation.specs.Compile.{sorted, entry, compile}
 use Rattle.notation.specs.Compile as Compile
-use Rattle.writer.specs.Named.{names_of, productionBy}
+use Rattle.writer.specs.Named.{names_of, production_by}
 use Rattle.emitter.specs.Emitted.{Emits}
 use Rattle.writer.specs.declared.node.Made.{Made}
 use Rattle.compiler.specs.Judges.{Passes}
@@ -22,21 +22,21 @@ Lends bytes before after (Refused number at) = (length before < length bytes) ×
 pub record Lists (text heads tables switches : List ℕ) : Type 0 where
   pub productions : List Production
   pub passes : Passes text productions
-  pub heads-are : names_of text heads ≡ sorted (names productions)
-  pub tables-are : names_of text tables ≡ sorted (Naming.tables productions)
-  pub switches-are : names_of text switches ≡ sorted (conditions productions)
+  pub heads_are : names_of text heads ≡ sorted (names productions)
+  pub tables_are : names_of text tables ≡ sorted (Naming.tables productions)
+  pub switches_are : names_of text switches ≡ sorted (conditions productions)
 
 -- And these are their numbers: each production's node by its name, and the start.
 pub record Numbers (text heads roots tables switches : List ℕ) (start : ℕ) : Type 0 where
   pub lists : Lists text heads tables switches
-  pub each : (n : Name) → productionBy text heads roots n ≡ entry n (Compile.roots 0 lists.productions)
+  pub each : (n : Name) → production_by text heads roots n ≡ entry n (Compile.roots 0 lists.productions)
   pub first : start ≡ (compile lists.productions).start
 
 -- The text reads as productions that passed, and this is there of its image: how many conditions it has, its start, and what was written of its nodes.
 pub record Makes (text : List ℕ) (switches start : ℕ) (out patterns ends : List ℕ) (made : Made) : Type 0 where
   pub productions : List Production
   pub passes : Passes text productions
-  pub switches-are : switches ≡ (compile productions).conditions
+  pub switches_are : switches ≡ (compile productions).conditions
   pub start_is : start ≡ (compile productions).start
-  pub ends-long : length ends ≡ 512
+  pub ends_long : length ends ≡ 512
   pub emits : Emits productions out patterns ends made

@@ -6,8 +6,8 @@ use Rattle.notation.specs.Token.{Lexeme}
 use Rattle.notation.specs.Lexer.{lexemes}
 use Rattle.notation.specs.Text.{ReadsAs}
 use Rattle.notation.specs.Naming.{names, definitions}
-use Rattle.notation.specs.Uses.{head_of, def_of, switchOf}
-use Rattle.notation.specs.Places.{tokenPlace, namePlace, firstWhere, firstName, undefined, again, ninth, long, firstOver, isHead, only, unlike}
+use Rattle.notation.specs.Uses.{head_of, def_of, switch_of}
+use Rattle.notation.specs.Places.{token_place, namePlace, firstWhere, first_name, undefined, again, ninth, long, firstOver, isHead, only, unlike}
 use Rattle.notation.specs.Judged.{refused}
 use Rattle.notation.specs.Said.{Says}
 use Rattle.naming.specs.Found.{found}
@@ -35,40 +35,40 @@ module _ (text : List ℕ) (ps : List Production) where
   lacks = firstWhere (undefined (names ps) (map (λ d. d.table) (definitions ps))) (lexemes text)
 
   abbrev pub twice : Option Lexeme
-  twice = firstName head_of again [] (lexemes text)
+  twice = first_name head_of again [] (lexemes text)
 
   abbrev pub differs : Option Lexeme
   differs = unlike (definitions ps) (lexemes text)
 
-  abbrev pub ninthTable : Option Lexeme
-  ninthTable = firstName def_of ninth [] (lexemes text)
+  abbrev pub ninth_table : Option Lexeme
+  ninth_table = first_name def_of ninth [] (lexemes text)
 
-  abbrev pub ninthSwitch : Option Lexeme
-  ninthSwitch = firstName switchOf ninth [] (lexemes text)
+  abbrev pub ninth_switch : Option Lexeme
+  ninth_switch = first_name switch_of ninth [] (lexemes text)
 
-  abbrev pub longText : Option Lexeme
-  longText = firstWhere long (lexemes text)
+  abbrev pub long_text : Option Lexeme
+  long_text = firstWhere long (lexemes text)
 
-  abbrev pub overNodes : Option Lexeme
-  overNodes = firstOver 512 (λ n. n) 0 ps (only isHead (lexemes text))
+  abbrev pub over_nodes : Option Lexeme
+  over_nodes = firstOver 512 (λ n. n) 0 ps (only isHead (lexemes text))
 
   -- 21 and 22, 23, and 24.
-  abbrev pub byNames : Judgement
-  byNames = refusal 21 (found (namePlace text) lacks) then refusal 22 (found (namePlace text) twice)
+  abbrev pub by_names : Judgement
+  by_names = refusal 21 (found (namePlace text) lacks) then refusal 22 (found (namePlace text) twice)
 
-  abbrev pub byPatterns : Judgement
-  byPatterns = refusal 23 (found (tokenPlace text) differs)
+  abbrev pub by_patterns : Judgement
+  by_patterns = refusal 23 (found (token_place text) differs)
 
-  abbrev pub byLimits : Judgement
-  byLimits =
-      refusal 24 (found (namePlace text) ninthTable)
-      then refusal 24 (found (namePlace text) ninthSwitch)
-      then refusal 24 (found (tokenPlace text) longText)
-      then refusal 24 (found (namePlace text) overNodes)
+  abbrev pub by_limits : Judgement
+  by_limits =
+      refusal 24 (found (namePlace text) ninth_table)
+      then refusal 24 (found (namePlace text) ninth_switch)
+      then refusal 24 (found (token_place text) long_text)
+      then refusal 24 (found (namePlace text) over_nodes)
 
   -- All rules, in their order.
   unfoldable pub ruled : Judgement
-  ruled = byNames then byPatterns then byLimits
+  ruled = by_names then by_patterns then by_limits
 
 -- The text reads as productions of which every rule holds.
 pub record Passes (text : List ℕ) (ps : List Production) : Type 0 where

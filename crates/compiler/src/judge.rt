@@ -4,11 +4,11 @@ ghost use Rattle.notation.specs.Tree.{Production};
 ghost use Rattle.notation.specs.Text.{ReadsAs};
 ghost use Rattle.notation.specs.Lexer.{lexemes};
 ghost use Rattle.notation.specs.Uses.{head_of};
-ghost use Rattle.notation.specs.Places.{namePlace, firstName, ninth};
+ghost use Rattle.notation.specs.Places.{namePlace, first_name, ninth};
 ghost use Rattle.naming.specs.Found.{found};
-ghost use Rattle.naming.specs.Gathered.{sortOf, gathered};
+ghost use Rattle.naming.specs.Gathered.{sort_of, gathered};
 ghost use Rattle.writer.specs.Named.{names_of};
-ghost use Rattle.compiler.specs.Judges.{refusal as Judges·refusal, ◌then◌, lacks, byNames, byLimits, ruled, Judges};
+ghost use Rattle.compiler.specs.Judges.{refusal as Judges·refusal, ◌then◌, lacks, by_names, by_limits, ruled, Judges};
 
 use naming::found::Found;
 use naming::gather::gather;
@@ -59,7 +59,7 @@ fn lacking(text: &[u8], heads: &[u16]) -> Found
 // 21 and 22.
 fn names(text: &[u8]) -> Judgement
     requires { length text.now ≤ 65535 }
-    ensures { (ps : List Production) → ReadsAs text.now ps → result ≡ byNames text.now ps }
+    ensures { (ps : List Production) → ReadsAs text.now ps → result ≡ by_names text.now ps }
 {
     let mut heads = [0u16; 32768];
     let g = gather(text, &mut heads, 0);
@@ -72,7 +72,7 @@ fn names(text: &[u8]) -> Judgement
 // The first name of a sort with which there are nine.
 fn ninth(text: &[u8], sort: u8) -> Found
     requires { length text.now ≤ 65535 }
-    ensures { result ≡ found (namePlace text.now) (firstName (sortOf sort) ninth [] (lexemes text.now)) }
+    ensures { result ≡ found (namePlace text.now) (first_name (sort_of sort) ninth [] (lexemes text.now)) }
 {
     let mut at = [0u16; 32768];
     let g = gather(text, &mut at, sort);
@@ -82,7 +82,7 @@ fn ninth(text: &[u8], sort: u8) -> Found
 // 24 but for the image.
 fn limits(text: &[u8]) -> Judgement
     requires { length text.now ≤ 65535 }
-    ensures { (ps : List Production) → ReadsAs text.now ps → result ≡ byLimits text.now ps }
+    ensures { (ps : List Production) → ReadsAs text.now ps → result ≡ by_limits text.now ps }
 {
     let table = ninth(text, 1);
     if let Found::At(p) = table {

@@ -12,51 +12,51 @@ use Rattle.notation.specs.Tree.{Name, def}
 use Rattle.notation.specs.At.{name_at}
 use Rattle.notation.specs.Naming.{member}
 use Rattle.lexer.specs.declared.token.Token.{Token}
-use Rattle.lexer.specs.Meant.{openerAt}
-use Rattle.writer.specs.Operator.{openerOf}
+use Rattle.lexer.specs.Meant.{opener_at}
+use Rattle.writer.specs.Operator.{opener_of}
 use Rattle.emitter.specs.Known.{Begins}
-use Rattle.emitter.specs.Shown.{broughtOf, Tabled, Marks}
+use Rattle.emitter.specs.Shown.{brought_of, Tabled, Marks}
 
 module _ (text : List ℕ) (ts : List Name) (was : List ℕ) (t : Token) where
   abbrev name : Name
   name = name_at text t.name
 
   module _ (e : t.symbol ≡ 10) where
-    is-def : openerAt text t ≡ def name
-    unfolding openerAt
-    is-def = rw e
+    is_def_lem : opener_at text t ≡ def name
+    unfolding opener_at
+    is_def_lem = rw e
 
-    pub def-tabled : Tabled ts (openerAt text t) → member name ts ≡ true
-    def-tabled h = rw is-def at h
+    pub def_tabled : Tabled ts (opener_at text t) → member name ts ≡ true
+    def_tabled h = rw is_def_lem at h
 
-    pub marks-first : (now : List ℕ) → length now ≡ length was → Begins was ts name now true → Marks text ts was t now 9
-    unfolding openerOf broughtOf
-    marks-first now l b = record {
+    pub marks_first : (now : List ℕ) → length now ≡ length was → Begins was ts name now true → Marks text ts was t now 9
+    unfolding opener_of brought_of
+    marks_first now l b = record {
       low = omega arith;
-      opener = sym is-def;
-      brought = λ f T. rw (is-def, ← (b f T).0);
-      tells = λ f T. rw (is-def, ← (b f T).0) (b f T).1;
+      opener = sym is_def_lem;
+      brought = λ f T. rw (is_def_lem, ← (b f T).0);
+      tells = λ f T. rw (is_def_lem, ← (b f T).0) (b f T).1;
       long = l;
     }
 
-    pub marks-later : (now : List ℕ) → length now ≡ length was → Begins was ts name now false → Marks text ts was t now 10
-    unfolding openerOf broughtOf
-    marks-later now l b = record {
+    pub marks_later : (now : List ℕ) → length now ≡ length was → Begins was ts name now false → Marks text ts was t now 10
+    unfolding opener_of brought_of
+    marks_later now l b = record {
       low = omega arith;
-      opener = sym is-def;
-      brought = λ f T. rw (is-def, ← (b f T).0);
-      tells = λ f T. rw (is-def, ← (b f T).0) (b f T).1;
+      opener = sym is_def_lem;
+      brought = λ f T. rw (is_def_lem, ← (b f T).0);
+      tells = λ f T. rw (is_def_lem, ← (b f T).0) (b f T).1;
       long = l;
     }
 
-  pub marks-on : t.symbol ≡ 13 → t.truth ≡ true → Marks text ts was t was 14
-  unfolding openerAt openerOf broughtOf
-  marks-on e w = record { low = omega arith; opener = rw (e, w); brought = λ f T. rw e; tells = λ f T. rw e T; long = refl }
+  pub marks_on : t.symbol ≡ 13 → t.truth ≡ true → Marks text ts was t was 14
+  unfolding opener_at opener_of brought_of
+  marks_on e w = record { low = omega arith; opener = rw (e, w); brought = λ f T. rw e; tells = λ f T. rw e T; long = refl }
 
   -- Every other operator is marked by its symbol.
-  pub marks-other : 11 ≤ t.symbol → t.symbol ≤ 13 → (t.symbol ≡ 13 → t.truth ≡ false) → Marks text ts was t was t.symbol
-  unfolding openerAt openerOf broughtOf
-  marks-other h k w = block? (eqb t.symbol 11) refl
+  pub marks_other : 11 ≤ t.symbol → t.symbol ≤ 13 → (t.symbol ≡ 13 → t.truth ≡ false) → Marks text ts was t was t.symbol
+  unfolding opener_at opener_of brought_of
+  marks_other h k w = block? (eqb t.symbol 11) refl
     where
       local? : (b : Bool) → eqb t.symbol 12 ≡ b → (t.symbol ≡ 11 → ⊥) → Marks text ts was t was t.symbol
       local? true q n = let e = eqb-true t.symbol 12 q in record { low = omega arith; opener = rw e; brought = λ f T. rw e; tells = λ f T. rw e T; long = refl }
@@ -71,10 +71,10 @@ module _ (text : List ℕ) (ts : List Name) (was : List ℕ) (t : Token) where
 
 -- What an operator that ends brings.
 module _ (m : ℕ) (n : Name) where
-  pub brings-it : m ≡ 9 → broughtOf m n ≡ some n
-  unfolding broughtOf
-  brings-it e = rw e
+  pub brings_it : m ≡ 9 → brought_of m n ≡ some n
+  unfolding brought_of
+  brings_it e = rw e
 
-  pub brings-none : (m ≡ 9 → ⊥) → broughtOf m n ≡ none
-  unfolding broughtOf
-  brings-none e = rw (ne_eqb m 9 e)
+  pub brings_none : (m ≡ 9 → ⊥) → brought_of m n ≡ none
+  unfolding brought_of
+  brings_none e = rw (ne_eqb m 9 e)

@@ -5,36 +5,36 @@ use Rattle.std.proofs.Math.ListN.{get_or-map}
 use Rattle.notation.specs.Tree.{Name}
 use Rattle.notation.specs.Naming.{member, distinct}
 use Rattle.notation.specs.Compile.{place}
-use Rattle.notation.specs.Patterns.{Known, none_yet, begun, ends_at, isNew, put}
-use Rattle.notation.specs.PatternsLaws.{put-at, found_at}
-use Rattle.notation.specs.OrderLaws.{ascending-distinct}
+use Rattle.notation.specs.Patterns.{Known, none_yet, begun, ends_at, is_new, put}
+use Rattle.notation.specs.PatternsLaws.{put_at, found_at}
+use Rattle.notation.specs.OrderLaws.{ascending_distinct}
 use Rattle.index.specs.Listed.{Ascending}
 use Rattle.emitter.specs.Known.{known_of, Tells, Begins}
 
-known-new : (n : ℕ) → n ≡ 512 → isNew (known_of n) ≡ true
+known_new : (n : ℕ) → n ≡ 512 → is_new (known_of n) ≡ true
 unfolding known_of
-known-new n e = rw (eq-eqb n 512 e)
+known_new n e = rw (eq-eqb n 512 e)
 
-known-old : (n : ℕ) → (n ≡ 512 → ⊥) → isNew (known_of n) ≡ false
+known_old : (n : ℕ) → (n ≡ 512 → ⊥) → is_new (known_of n) ≡ false
 unfolding known_of
-known-old n h = go (eqb n 513) refl
+known_old n h = go (eqb n 513) refl
   where
-    go : (b : Bool) → eqb n 513 ≡ b → isNew (known_of n) ≡ false
+    go : (b : Bool) → eqb n 513 ≡ b → is_new (known_of n) ≡ false
     go true e = rw (ne_eqb n 512 h, e)
     go false e = rw (ne_eqb n 512 h, e)
 
-known-begun : known_of 513 ≡ begun
+known_begun : known_of 513 ≡ begun
 unfolding known_of
-known-begun = refl
+known_begun = refl
 
-pub known-node : (n : ℕ) → n < 512 → known_of n ≡ ends_at n
+pub known_node : (n : ℕ) → n < 512 → known_of n ≡ ends_at n
 unfolding known_of
-known-node n h = rw (ne_eqb n 512 (λ z. omega arith), ne_eqb n 513 (λ z. omega arith))
+known_node n h = rw (ne_eqb n 512 (λ z. omega arith), ne_eqb n 513 (λ z. omega arith))
 
 -- A number that stands for a node is that node.
-pub node-known : (n k : ℕ) → known_of n ≡ ends_at k → n ≡ k
+pub node_known : (n k : ℕ) → known_of n ≡ ends_at k → n ≡ k
 unfolding known_of
-node-known n k e = go (eqb n 512) (eqb n 513) refl refl
+node_known n k e = go (eqb n 512) (eqb n 513) refl refl
   where
     go : (a b : Bool) → eqb n 512 ≡ a → eqb n 513 ≡ b → n ≡ k
     go true b x y = let z : none_yet ≡ ends_at k = sym (rw x) ∙ e in absurd (let w : ◌≡◌ {A = ℕ} 0 1 = cc in omega arith)
@@ -51,17 +51,17 @@ module _ (was : List ℕ) (ts : List Name) (t : Name) (f : Name → Known) (T : 
   known_at m =
       sym (get_or-map known_of was (place t ts) 0) ∙ ap (λ l. get_or l (place t ts) (known_of 0)) T ∙ found_at t f (known_of 0) ts m
 
-  pub tells-put : Ascending ts → (v : ℕ) → Tells (set was (place t ts) v) ts (put t (known_of v) f)
-  tells-put a v =
+  pub tells_put : Ascending ts → (v : ℕ) → Tells (set was (place t ts) v) ts (put t (known_of v) f)
+  tells_put a v =
       map-set known_of was (place t ts) v ∙ ap (λ l. set l (place t ts) (known_of v)) T
-      ∙ sym (put-at t (known_of v) f ts (ascending-distinct ts a))
+      ∙ sym (put_at t (known_of v) f ts (ascending_distinct ts a))
 
 module _ (was : List ℕ) (ts : List Name) (t : Name) (m : member t ts ≡ true) where
-  pub begins-old : (get_or was (place t ts) 0 ≡ 512 → ⊥) → Begins was ts t was false
-  begins-old h f T = (sym (ap isNew (sym (known_at was ts t f T m)) ∙ known-old (get_or was (place t ts) 0) h), T)
+  pub begins_old : (get_or was (place t ts) 0 ≡ 512 → ⊥) → Begins was ts t was false
+  begins_old h f T = (sym (ap is_new (sym (known_at was ts t f T m)) ∙ known_old (get_or was (place t ts) 0) h), T)
 
-  pub begins-new : Ascending ts → get_or was (place t ts) 0 ≡ 512 → Begins was ts t (set was (place t ts) 513) true
-  begins-new a e f T = (
-    sym (ap isNew (sym (known_at was ts t f T m)) ∙ known-new (get_or was (place t ts) 0) e),
-    rw known-begun at (tells-put was ts t f T a 513),
+  pub begins_new : Ascending ts → get_or was (place t ts) 0 ≡ 512 → Begins was ts t (set was (place t ts) 513) true
+  begins_new a e f T = (
+    sym (ap is_new (sym (known_at was ts t f T m)) ∙ known_new (get_or was (place t ts) 0) e),
+    rw known_begun at (tells_put was ts t f T a 513),
   )

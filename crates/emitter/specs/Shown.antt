@@ -2,23 +2,23 @@
 use Rattle.std.specs.Prelude.{ℕ, zero, suc, ◌+◌, ◌-◌, ◌*◌, ◌/◌, ◌%◌, ◌≤◌, ◌<◌, ◌≡◌, true, List, [], ◌∷◌, ◌++◌, eqb, length, take, get_or}
 use Rattle.std.proofs.Math.Option.{Option, some, none}
 use Rattle.format.specs.Reading.{pick}
-use Rattle.format.specs.Written.{written, encodeNode}
+use Rattle.format.specs.Written.{written, encode_node}
 use Rattle.grammar.specs.Expr.{Expr}
 use Rattle.notation.specs.Tree.{Name, Opener, def, block, local, on}
 use Rattle.notation.specs.At.{name_at}
 use Rattle.notation.specs.Stream.{Symbol, named, stands, enters, leaves, front, back, joins}
 use Rattle.notation.specs.Naming.{member, all}
 use Rattle.notation.specs.Limits.{short}
-use Rattle.notation.specs.Compile.{leafCount, prefixCount, suffixCount}
+use Rattle.notation.specs.Compile.{leaf_count, prefix_count, suffix_count}
 use Rattle.notation.specs.Patterns.{Known, begun, ends_at, brings, note}
 use Rattle.lexer.specs.declared.token.Token.{Token}
-use Rattle.lexer.specs.Meant.{openerAt}
+use Rattle.lexer.specs.Meant.{opener_at}
 use Rattle.walker.specs.Walks.{Taken}
 use Rattle.writer.specs.declared.node.Made.{Made}
 use Rattle.emitter.specs.declared.state.State.{State}
 use Rattle.writer.specs.Put.{Adds}
-use Rattle.writer.specs.Named.{placeBy, productionBy}
-use Rattle.writer.specs.Operator.{openerOf}
+use Rattle.writer.specs.Named.{place_by, production_by}
+use Rattle.writer.specs.Operator.{opener_of}
 use Rattle.emitter.specs.Known.{Tells}
 use Rattle.emitter.specs.Stage.{Stage, bytes_of, after}
 
@@ -30,21 +30,21 @@ row_of f (suc n) = f n ∷ row_of f n
 -- ## Operators that are open
 
 -- The table whose pattern an operator brings, by its mark.
-unfoldable pub broughtOf : (mark : ℕ) → Name → Option Name
-broughtOf m n = pick (eqb m 9) (some n) none
+unfoldable pub brought_of : (mark : ℕ) → Name → Option Name
+brought_of m n = pick (eqb m 9) (some n) none
 
 -- The operator that was kept i-th, and the table whose pattern it brings. What is kept is the place of its name, times 16, and its mark.
-abbrev pub openerIn : (text opened : List ℕ) → ℕ → Opener
-openerIn text opened i = openerOf (get_or opened i 0 % 16) (name_at text (get_or opened i 0 / 16))
+abbrev pub opener_in : (text opened : List ℕ) → ℕ → Opener
+opener_in text opened i = opener_of (get_or opened i 0 % 16) (name_at text (get_or opened i 0 / 16))
 
-abbrev pub broughtIn : (text opened : List ℕ) → ℕ → Option Name
-broughtIn text opened i = broughtOf (get_or opened i 0 % 16) (name_at text (get_or opened i 0 / 16))
+abbrev pub brought_in : (text opened : List ℕ) → ℕ → Option Name
+brought_in text opened i = brought_of (get_or opened i 0 % 16) (name_at text (get_or opened i 0 / 16))
 
-abbrev pub openersAt : (text opened : List ℕ) → ℕ → List Opener
-openersAt text opened = row_of (openerIn text opened)
+abbrev pub openers_at : (text opened : List ℕ) → ℕ → List Opener
+openers_at text opened = row_of (opener_in text opened)
 
-abbrev pub broughtAt : (text opened : List ℕ) → ℕ → List (Option Name)
-broughtAt text opened = row_of (broughtIn text opened)
+abbrev pub brought_at : (text opened : List ℕ) → ℕ → List (Option Name)
+brought_at text opened = row_of (brought_in text opened)
 
 -- The table that an operator defines is one of these.
 abbrev pub Tabled : List Name → Opener → Type 0
@@ -56,9 +56,9 @@ Tabled ts (on c w) = Unit
 -- An operator begins with this mark: it is the one that the token is, and the tables know of it.
 pub record Marks (text : List ℕ) (ts : List Name) (was : List ℕ) (t : Token) (now : List ℕ) (mark : ℕ) : Type 0 where
   pub low : mark < 16
-  pub opener : openerOf mark (name_at text t.name) ≡ openerAt text t
-  pub brought : (f : Name → Known) → Tells was ts f → broughtOf mark (name_at text t.name) ≡ brings (openerAt text t) f
-  pub tells : (f : Name → Known) → Tells was ts f → Tells now ts (note (brings (openerAt text t) f) begun f)
+  pub opener : opener_of mark (name_at text t.name) ≡ opener_at text t
+  pub brought : (f : Name → Known) → Tells was ts f → brought_of mark (name_at text t.name) ≡ brings (opener_at text t) f
+  pub tells : (f : Name → Known) → Tells was ts f → Tells now ts (note (brings (opener_at text t) f) begun f)
   pub long : length now ≡ length was
 
 -- An operator has ended: where it brings a table's pattern, that has this node.
@@ -69,29 +69,29 @@ pub record Ends (was : List ℕ) (ts : List Name) (brought : Option Name) (node 
 -- An operator that a token is has begun.
 pub record Enters (text : List ℕ) (ts : List Name) (was opened : List ℕ) (s : State) (t : Token) (now after : List ℕ) (r : State) : Type 0 where
   pub state : r ≡ record { made = s.made; complete = s.complete; openers = s.openers + 1; ended = s.ended }
-  pub openers : openersAt text after (s.openers + 1) ≡ openerAt text t ∷ openersAt text opened s.openers
+  pub openers : openers_at text after (s.openers + 1) ≡ opener_at text t ∷ openers_at text opened s.openers
   pub brought : (f : Name → Known) → Tells was ts f
-      → broughtAt text after (s.openers + 1) ≡ brings (openerAt text t) f ∷ broughtAt text opened s.openers
-  pub tells : (f : Name → Known) → Tells was ts f → Tells now ts (note (brings (openerAt text t) f) begun f)
+      → brought_at text after (s.openers + 1) ≡ brings (opener_at text t) f ∷ brought_at text opened s.openers
+  pub tells : (f : Name → Known) → Tells was ts f → Tells now ts (note (brings (opener_at text t) f) begun f)
   pub long : (length now ≡ length was) × (length after ≡ length opened)
 
 -- ## Expressions that are complete
 
-abbrev pub completeAt : (done : List ℕ) → ℕ → List ℕ
-completeAt done = row_of (λ i. get_or done i 0)
+abbrev pub complete_at : (done : List ℕ) → ℕ → List ℕ
+complete_at done = row_of (λ i. get_or done i 0)
 
 -- The last of the nodes that were made is complete, over the first `depth` of what was.
 pub record Settles (done : List ℕ) (m : Made) (depth openers ended : ℕ) (after : List ℕ) (r : State) : Type 0 where
   pub state : r ≡ record { made = m; complete = depth + 1; openers = openers; ended = ended }
-  pub row : completeAt after (depth + 1) ≡ (m.nodes - 1) ∷ completeAt done depth
+  pub row : complete_at after (depth + 1) ≡ (m.nodes - 1) ∷ complete_at done depth
   pub long : length after ≡ length done
 
 -- Nodes were added, and what they end is complete over the first `depth` of what was; so many operators are open then.
 pub record Grows (was done : List ℕ) (s : State) (depth openers : ℕ) (new : List Expr) (now after : List ℕ) (r : State) : Type 0 where
   pub adds : Adds was s.made now r.made new
-  pub row : completeAt after r.complete ≡ (s.made.nodes + length new - 1) ∷ completeAt done depth
+  pub row : complete_at after r.complete ≡ (s.made.nodes + length new - 1) ∷ complete_at done depth
   pub tall : r.complete ≡ depth + 1
-  pub open-then : r.openers ≡ openers
+  pub open_then : r.openers ≡ openers
   pub ended : r.ended ≡ s.ended
   pub long : length after ≡ length done
 
@@ -105,14 +105,14 @@ pub record EndsOne (ends : List ℕ) (m : Made) (ended : ℕ) (now : List ℕ) (
 
 -- One begins: nothing is complete or open any more.
 pub record Starts (ends : List ℕ) (s : State) (now : List ℕ) (r : State) : Type 0 where
-  pub ends-one : EndsOne ends s.made s.ended now r.ended
+  pub ends_one : EndsOne ends s.made s.ended now r.ended
   pub state : r ≡ record { made = s.made; complete = 0; openers = 0; ended = r.ended }
 
 -- ## All of it
 
 -- Nodes are written in the front of a buffer.
 pub record Holds (out : List ℕ) (m : Made) (xs : List Expr) : Type 0 where
-  pub front : take m.length out ≡ written encodeNode xs
+  pub front : take m.length out ≡ written encode_node xs
   pub place : m.length ≡ bytes_of xs
   pub many : m.nodes ≡ length xs
   pub low : m.length ≤ 66 * m.nodes
@@ -121,16 +121,16 @@ pub record Holds (out : List ℕ) (m : Made) (xs : List Expr) : Type 0 where
 -- What is known between two symbols is in the arrays.
 pub record Shown (text : List ℕ) (ts : List Name) (out patterns ends done opened : List ℕ) (s : State) (st : Stage) : Type 0 where
   pub holds : Holds out s.made st.nodes
-  pub complete-shown : completeAt done s.complete ≡ st.complete
-  pub openers-shown : openersAt text opened s.openers ≡ st.openers
-  pub brought-shown : broughtAt text opened s.openers ≡ st.brought
-  pub known-shown : Tells patterns ts st.known
-  pub ends-shown : take s.ended ends ≡ st.ends
+  pub complete_shown : complete_at done s.complete ≡ st.complete
+  pub openers_shown : openers_at text opened s.openers ≡ st.openers
+  pub brought_shown : brought_at text opened s.openers ≡ st.brought
+  pub known_shown : Tells patterns ts st.known
+  pub ends_shown : take s.ended ends ≡ st.ends
   pub tall : s.complete ≤ s.made.nodes
-  pub few-ends : s.ended ≤ length ends
-  pub long-ends : length ends ≡ 512
-  pub long-done : length done ≡ 512
-  pub long-opened : length opened ≡ 512
+  pub few_ends : s.ended ≤ length ends
+  pub long_ends : length ends ≡ 512
+  pub long_done : length done ≡ 512
+  pub long_opened : length opened ≡ 512
 
 -- The tables whose patterns are brought are among these.
 abbrev pub Brought : List Name → List (Option Name) → Type 0
@@ -141,11 +141,11 @@ Brought ts (some t ∷ ms) = (member t ts ≡ true) × Brought ts ms
 -- There is enough complete and open for a symbol, and room for what it adds.
 abbrev pub Apt : List Name → Symbol → State → Type 0
 Apt ts (named n) s = (s.ended < 512) × (s.made.nodes ≤ 512)
-Apt ts (stands l) s = (all (λ b. b) (short l) ≡ true) × (s.made.nodes + leafCount l ≤ 512)
+Apt ts (stands l) s = (all (λ b. b) (short l) ≡ true) × (s.made.nodes + leaf_count l ≤ 512)
 Apt ts (enters o) s = Tabled ts o × (s.openers < 512)
 Apt ts leaves s = (1 ≤ s.complete) × (1 ≤ s.openers) × (s.openers ≤ 512) × (s.made.nodes < 512)
-Apt ts (front p) s = (1 ≤ s.complete) × (s.made.nodes + prefixCount p ≤ 512)
-Apt ts (back q) s = (1 ≤ s.complete) × (s.made.nodes + suffixCount q ≤ 512)
+Apt ts (front p) s = (1 ≤ s.complete) × (s.made.nodes + prefix_count p ≤ 512)
+Apt ts (back q) s = (1 ≤ s.complete) × (s.made.nodes + suffix_count q ≤ 512)
 Apt ts (joins b) s = (2 ≤ s.complete) × (s.made.nodes < 512)
 
 -- A symbol was given, and up to 14 a token was taken for it.
@@ -154,5 +154,5 @@ pub record Given (text : List ℕ) (n : ℕ) (t : Token) : Type 0 where
   pub taken : n ≤ 14 → Taken text n t
 
 -- What a symbol does, by what the slices tell of names.
-abbrev pub afterBy : (text heads roots tables switches : List ℕ) → Symbol → Stage → Stage
-afterBy text heads roots tables switches = after (productionBy text heads roots) (placeBy text tables) (placeBy text switches)
+abbrev pub after_by : (text heads roots tables switches : List ℕ) → Symbol → Stage → Stage
+after_by text heads roots tables switches = after (production_by text heads roots) (place_by text tables) (place_by text switches)

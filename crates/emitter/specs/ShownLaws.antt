@@ -4,21 +4,21 @@ use Rattle.std.proofs.Common.{ap, ap₂, ◌∙◌, arith, add-one, length-set, 
 use Rattle.grammar.specs.Expr.{Expr}
 use Rattle.notation.specs.Tree.{Name, Leaf, any, quoted, class, call, query, if, leaf}
 use Rattle.notation.specs.At.{name_at}
-use Rattle.notation.specs.Compile.{leafCount, leafNodes, count, emit}
-use Rattle.notation.specs.MeansLaws.{emit-length}
+use Rattle.notation.specs.Compile.{leaf_count, leaf_nodes, count, emit}
+use Rattle.notation.specs.MeansLaws.{emit_length}
 use Rattle.lexer.specs.declared.token.Token.{Token}
 use Rattle.writer.specs.declared.node.Made.{Made}
 use Rattle.emitter.specs.declared.state.State.{State}
 use Rattle.writer.specs.Put.{Adds}
-use Rattle.writer.specs.Operator.{openerOf}
-use Rattle.emitter.specs.Shown.{row_of, broughtOf, openersAt, broughtAt, Marks, Enters, completeAt, Settles, Grows}
+use Rattle.writer.specs.Operator.{opener_of}
+use Rattle.emitter.specs.Shown.{row_of, brought_of, openers_at, brought_at, Marks, Enters, complete_at, Settles, Grows}
 
 -- ## Rows
 
-pub row-length : {A : Type 0} (f : ℕ → A) (n : ℕ) → length (row_of f n) ≡ n
+pub row_length : {A : Type 0} (f : ℕ → A) (n : ℕ) → length (row_of f n) ≡ n
 unfolding row_of
-row-length f zero = refl
-row-length f (suc n) = ap suc (row-length f n)
+row_length f zero = refl
+row_length f (suc n) = ap suc (row_length f n)
 
 row_same : {A : Type 0} (f g : ℕ → A) (n : ℕ) → ((i : ℕ) → i < n → f i ≡ g i) → row_of f n ≡ row_of g n
 unfolding row_of
@@ -31,10 +31,10 @@ unfolding row_of
 row_more f n = rw (add-one n)
 
 -- One more, stored behind the first i.
-row-push :
+row_push :
     {A : Type 0} (f : ℕ → A) (l : List ℕ) (i v : ℕ) → i < length l
     → row_of (λ j. f (get_or (set l i v) j 0)) (i + 1) ≡ f v ∷ row_of (λ j. f (get_or l j 0)) i
-row-push f l i v h =
+row_push f l i v h =
     row_more (λ j. f (get_or (set l i v) j 0)) i
     ∙ rw (get_or-set_same l i v 0 h)
     (ap (λ r. f v ∷ r)
@@ -42,64 +42,64 @@ row-push f l i v h =
 
 -- ## What is complete
 
-pub settles-set :
+pub settles_set :
     (done : List ℕ) (m : Made) (depth openers ended : ℕ) → depth < length done
     → Settles done m depth openers ended (set done depth (m.nodes - 1)) (record { made = m; complete = depth + 1; openers = openers; ended = ended })
-settles-set done m depth openers ended h = record { state = refl; row = row-push (λ n. n) done depth (m.nodes - 1) h; long = length-set done depth (m.nodes - 1) }
+settles_set done m depth openers ended h = record { state = refl; row = row_push (λ n. n) done depth (m.nodes - 1) h; long = length-set done depth (m.nodes - 1) }
 
-pub grows-settled :
+pub grows_settled :
     {was done now after : List ℕ} {s r : State} {m : Made} {depth openers : ℕ} {new : List Expr} → Adds was s.made now m new
     → Settles done m depth openers s.ended after r → Grows was done s depth openers new now after r
-grows-settled {was} {done} {now} {after} {s} {r} {m} {depth} {openers} {new} a g =
+grows_settled {was} {done} {now} {after} {s} {r} {m} {depth} {openers} {new} a g =
     let e : m.nodes - 1 ≡ s.made.nodes + length new - 1 = omega (arith, a.many) in
     rw g.state (record {
       adds = a;
-      row = g.row ∙ ap (λ n. n ∷ completeAt done depth) e;
+      row = g.row ∙ ap (λ n. n ∷ complete_at done depth) e;
       tall = refl;
-      open-then = refl;
+      open_then = refl;
       ended = refl;
       long = g.long;
     })
 
 -- ## Leaves
 
-pub leaf-length : (production table condition : Name → ℕ) (k : ℕ) (l : Leaf) → length (leafNodes production table condition k l) ≡ leafCount l
+pub leaf_length : (production table condition : Name → ℕ) (k : ℕ) (l : Leaf) → length (leaf_nodes production table condition k l) ≡ leaf_count l
 unfolding emit count
-leaf-length production table condition k l = emit-length production table condition k (leaf l)
+leaf_length production table condition k l = emit_length production table condition k (leaf l)
 
-pub leaf-some : (l : Leaf) → 1 ≤ leafCount l
-leaf-some any = omega arith
-leaf-some (quoted s) = omega arith
-leaf-some (class p ps) = omega arith
-leaf-some (call n) = omega arith
-leaf-some (query q t) = omega arith
-leaf-some (if c w) = omega arith
+pub leaf_some : (l : Leaf) → 1 ≤ leaf_count l
+leaf_some any = omega arith
+leaf_some (quoted s) = omega arith
+leaf_some (class p ps) = omega arith
+leaf_some (call n) = omega arith
+leaf_some (query q t) = omega arith
+leaf_some (if c w) = omega arith
 
 -- ## What is open
 
 module _ (p m : ℕ) (h : m < 16) where
-  mark-kept : (p * 16 + m) % 16 ≡ m
-  mark-kept = omega arith
+  mark_kept : (p * 16 + m) % 16 ≡ m
+  mark_kept = omega arith
 
   place_kept : (p * 16 + m) / 16 ≡ p
   place_kept = omega arith
 
-pub enters-set :
+pub enters_set :
     {text : List ℕ} {ts : List Name} {was : List ℕ} {t : Token} {now : List ℕ} {mark : ℕ} (opened : List ℕ) (s : State) → s.openers < length opened
     → Marks text ts was t now mark
     → Enters text ts was opened s t now (set opened s.openers (t.name * 16 + mark))
     (record { made = s.made; complete = s.complete; openers = s.openers + 1; ended = s.ended })
-enters-set {text} {ts} {was} {t} {now} {mark} opened s h m =
+enters_set {text} {ts} {was} {t} {now} {mark} opened s h m =
     let i = s.openers in
     let v = t.name * 16 + mark in
-    let k = mark-kept t.name mark m.low in
+    let k = mark_kept t.name mark m.low in
     let l = place_kept t.name mark m.low in
     record {
       state = refl;
-      openers = row-push (λ n. openerOf (n % 16) (name_at text (n / 16))) opened i v h
-          ∙ ap (λ o. o ∷ openersAt text opened i) (ap₂ (λ n p. openerOf n (name_at text p)) k l ∙ m.opener);
-      brought = λ f T. row-push (λ n. broughtOf (n % 16) (name_at text (n / 16))) opened i v h
-          ∙ ap (λ o. o ∷ broughtAt text opened i) (ap₂ (λ n p. broughtOf n (name_at text p)) k l ∙ m.brought f T);
+      openers = row_push (λ n. opener_of (n % 16) (name_at text (n / 16))) opened i v h
+          ∙ ap (λ o. o ∷ openers_at text opened i) (ap₂ (λ n p. opener_of n (name_at text p)) k l ∙ m.opener);
+      brought = λ f T. row_push (λ n. brought_of (n % 16) (name_at text (n / 16))) opened i v h
+          ∙ ap (λ o. o ∷ brought_at text opened i) (ap₂ (λ n p. brought_of n (name_at text p)) k l ∙ m.brought f T);
       tells = m.tells;
       long = (m.long, length-set opened i v);
     }

@@ -8,31 +8,31 @@ use Rattle.std.proofs.Math.Option.{Option}
 use native.Mathlib.Omega.{arith}
 use Rattle.std.proofs.Math.ListN.{length, drop, get_or}
 use Rattle.std.proofs.lemmas.Bool.{eqb-false}
-use Rattle.format.specs.Written.{written, encodeNode}
+use Rattle.format.specs.Written.{written, encode_node}
 use Rattle.grammar.specs.Expr.{Expr}
 use Rattle.notation.specs.Tree.{Name, Leaf, Prefix, and, not, Suffix, option, star, plus, Binary, sequence, choice, Opener}
 use Rattle.notation.specs.Stream.{Symbol, named, stands, enters, leaves, front, back, joins}
-use Rattle.notation.specs.Compile.{leafNodes, prefixCount, suffixCount, prefixNodes, suffixNodes, binaryNode, operatorNode}
+use Rattle.notation.specs.Compile.{leaf_nodes, prefix_count, suffix_count, prefix_nodes, suffix_nodes, binary_node, operator_node}
 use Rattle.notation.specs.Patterns.{ends_at, brings, note}
 use Rattle.lexer.specs.declared.token.Token.{Token}
-use Rattle.lexer.specs.Meant.{openerAt}
+use Rattle.lexer.specs.Meant.{opener_at}
 use Rattle.walker.specs.Walks.{plain_of}
 use Rattle.writer.specs.declared.node.Made.{Made}
 use Rattle.emitter.specs.declared.state.State.{State}
 use Rattle.writer.specs.Put.{Room, Adds}
 use Rattle.writer.specs.PutLaws.{written_on}
-use Rattle.writer.specs.Operator.{first_of, second_of, unaryNodes, binaryOf}
+use Rattle.writer.specs.Operator.{first_of, second_of, unary_nodes, binary_of}
 use Rattle.emitter.specs.Known.{Tells}
-use Rattle.emitter.specs.Stage.{Stage, latest, bringing, closing, newNodes, over, completeAfter, openersAfter, broughtAfter, knownAfter, endsAfter, after}
-use Rattle.emitter.specs.Shown.{row_of, openerIn, broughtIn, openersAt, broughtAt, Ends, Enters, completeAt, Grows, Starts, Holds, Shown}
-use Rattle.emitter.specs.ShownLaws.{leaf-length, leaf-some}
+use Rattle.emitter.specs.Stage.{Stage, latest, bringing, closing, new_nodes, over, complete_after, openers_after, brought_after, known_after, ends_after, after}
+use Rattle.emitter.specs.Shown.{row_of, opener_in, brought_in, openers_at, brought_at, Ends, Enters, complete_at, Grows, Starts, Holds, Shown}
+use Rattle.emitter.specs.ShownLaws.{leaf_length, leaf_some}
 
 -- ## What is written
 
 holds_on : {out now : List ℕ} {m r : Made} {xs new : List Expr} → Holds out m xs → Adds out m now r new → Holds now r (xs ++ new)
 holds_on {out} {now} {m} {r} {xs} {new} h a = record {
-  front = a.wrote.front ∙ ap (λ l. l ++ written encodeNode new) h.front ∙ sym (written_on encodeNode xs new);
-  place = omega (arith, a.wrote.place, h.place, ap length (written_on encodeNode xs new), length-append (written encodeNode xs) (written encodeNode new));
+  front = a.wrote.front ∙ ap (λ l. l ++ written encode_node new) h.front ∙ sym (written_on encode_node xs new);
+  place = omega (arith, a.wrote.place, h.place, ap length (written_on encode_node xs new), length-append (written encode_node xs) (written encode_node new));
   many = omega (arith, a.many, h.many, length-append xs new);
   low = a.low;
   long = a.wrote.long ∙ h.long;
@@ -49,30 +49,30 @@ module _ {A : Type 0} (f : ℕ → A) where
   row_drop zero h = absurd (omega arith)
   row_drop (suc n) h = let e : suc n - 1 ≡ n = omega arith in rw e
 
-  row-drop-two : (n : ℕ) → 2 ≤ n → drop 2 (row_of f n) ≡ row_of f (n - 2)
+  row_drop_two : (n : ℕ) → 2 ≤ n → drop 2 (row_of f n) ≡ row_of f (n - 2)
   unfolding row_of
-  row-drop-two zero h = absurd (omega arith)
-  row-drop-two (suc zero) h = absurd (omega arith)
-  row-drop-two (suc (suc n)) h = let e : suc (suc n) - 2 ≡ n = omega arith in rw e
+  row_drop_two zero h = absurd (omega arith)
+  row_drop_two (suc zero) h = absurd (omega arith)
+  row_drop_two (suc (suc n)) h = let e : suc (suc n) - 2 ≡ n = omega arith in rw e
 
   pub row_first : (n : ℕ) → 1 ≤ n → row_of f n ≡ f (n - 1) ∷ row_of f (n - 1)
   unfolding row_of
   row_first zero h = absurd (omega arith)
   row_first (suc n) h = let e : suc n - 1 ≡ n = omega arith in rw e
 
-row-latest : (f : ℕ → ℕ) (n : ℕ) → 1 ≤ n → latest (row_of f n) ≡ f (n - 1)
-row-latest f n h = ap latest (row_first f n h)
+row_latest : (f : ℕ → ℕ) (n : ℕ) → 1 ≤ n → latest (row_of f n) ≡ f (n - 1)
+row_latest f n h = ap latest (row_first f n h)
 
-row-second : (f : ℕ → ℕ) (n : ℕ) → 2 ≤ n → latest (drop 1 (row_of f n)) ≡ f (n - 2)
-row-second f n h =
+row_second : (f : ℕ → ℕ) (n : ℕ) → 2 ≤ n → latest (drop 1 (row_of f n)) ≡ f (n - 2)
+row_second f n h =
     let e : n - 1 - 1 ≡ n - 2 = omega arith in
-    ap latest (row_drop f n (omega arith)) ∙ row-latest f (n - 1) (omega arith) ∙ ap f e
+    ap latest (row_drop f n (omega arith)) ∙ row_latest f (n - 1) (omega arith) ∙ ap f e
 
 -- ## Prefixes and suffixes by their numbers
 
 pub data Unary (n : ℕ) : Type 0 where
-  a-front : (p : Prefix) → plain_of n ≡ front p → ((a k : ℕ) → unaryNodes n a k ≡ prefixNodes p a k) → Unary n
-  a_back : (q : Suffix) → plain_of n ≡ back q → ((a k : ℕ) → unaryNodes n a k ≡ suffixNodes q a k) → Unary n
+  a_front : (p : Prefix) → plain_of n ≡ front p → ((a k : ℕ) → unary_nodes n a k ≡ prefix_nodes p a k) → Unary n
+  a_back : (q : Suffix) → plain_of n ≡ back q → ((a k : ℕ) → unary_nodes n a k ≡ suffix_nodes q a k) → Unary n
 
 pub unary : (n : ℕ) → 15 ≤ n → n ≤ 19 → Unary n
 unfolding plain_of first_of second_of
@@ -87,32 +87,32 @@ unary n h k = and? (eqb n 15) refl
     option? false e x y = star? (eqb n 18) refl x y (eqb-false n 17 e)
 
     not? : (b : Bool) → eqb n 16 ≡ b → (n ≡ 15 → ⊥) → Unary n
-    not? true e x = let q = eqb-true n 16 e in a-front not (rw q) (λ a k. rw q)
+    not? true e x = let q = eqb-true n 16 e in a_front not (rw q) (λ a k. rw q)
     not? false e x = option? (eqb n 17) refl x (eqb-false n 16 e)
 
     and? : (b : Bool) → eqb n 15 ≡ b → Unary n
-    and? true e = let q = eqb-true n 15 e in a-front and (rw q) (λ a k. rw q)
+    and? true e = let q = eqb-true n 15 e in a_front and (rw q) (λ a k. rw q)
     and? false e = not? (eqb n 16) refl (eqb-false n 15 e)
 
-pub prefix-length : (p : Prefix) (a k : ℕ) → length (prefixNodes p a k) ≡ prefixCount p
-prefix-length and a k = refl
-prefix-length not a k = refl
+pub prefix_length : (p : Prefix) (a k : ℕ) → length (prefix_nodes p a k) ≡ prefix_count p
+prefix_length and a k = refl
+prefix_length not a k = refl
 
-pub suffix-length : (q : Suffix) (a k : ℕ) → length (suffixNodes q a k) ≡ suffixCount q
-suffix-length option a k = refl
-suffix-length star a k = refl
-suffix-length plus a k = refl
+pub suffix_length : (q : Suffix) (a k : ℕ) → length (suffix_nodes q a k) ≡ suffix_count q
+suffix_length option a k = refl
+suffix_length star a k = refl
+suffix_length plus a k = refl
 
 pub data Joining (n : ℕ) : Type 0 where
-  a-join : (b : Binary) → plain_of n ≡ joins b → ((x y : ℕ) → binaryOf n x y ≡ binaryNode b x y) → Joining n
+  a_join : (b : Binary) → plain_of n ≡ joins b → ((x y : ℕ) → binary_of n x y ≡ binary_node b x y) → Joining n
 
 pub joining : (n : ℕ) → 20 ≤ n → n ≤ 21 → Joining n
-unfolding plain_of binaryOf
+unfolding plain_of binary_of
 joining n h k = sequence? (eqb n 20) refl
   where
     sequence? : (b : Bool) → eqb n 20 ≡ b → Joining n
-    sequence? true e = let q = eqb-true n 20 e in a-join sequence (rw q) (λ x y. rw q)
-    sequence? false e = let w = eqb-false n 20 e in let q : n ≡ 21 = omega arith in a-join choice (rw q) (λ x y. rw q)
+    sequence? true e = let q = eqb-true n 20 e in a_join sequence (rw q) (λ x y. rw q)
+    sequence? false e = let w = eqb-false n 20 e in let q : n ≡ 21 = omega arith in a_join choice (rw q) (λ x y. rw q)
 
 -- ## A symbol is taken
 
@@ -122,145 +122,145 @@ module _
     (S : Shown text ts out patterns ends done opened s st)
   where
     -- What nodes were added, and what is complete and open behind them, is what the symbol says.
-    shown-grown :
+    shown_grown :
         (x : Symbol) {now laid known : List ℕ} {r : State} {depth openers : ℕ} {new : List Expr} → Grows out done s depth openers new now laid r
-        → depth + 1 ≤ s.made.nodes + length new → new ≡ newNodes production table condition x st
-        → over st.nodes new (completeAt done depth) ≡ completeAfter production table condition x st
-        → openersAt text opened openers ≡ openersAfter x st
-        → broughtAt text opened openers ≡ broughtAfter x st
-        → Tells known ts (knownAfter x st) → st.ends ≡ endsAfter x st
+        → depth + 1 ≤ s.made.nodes + length new → new ≡ new_nodes production table condition x st
+        → over st.nodes new (complete_at done depth) ≡ complete_after production table condition x st
+        → openers_at text opened openers ≡ openers_after x st
+        → brought_at text opened openers ≡ brought_after x st
+        → Tells known ts (known_after x st) → st.ends ≡ ends_after x st
         → Shown text ts now known ends laid opened r (after production table condition x st)
     unfolding after
-    shown-grown x {laid = laid} {r = r} {depth = depth} {new = new} g h e f o b k n = record {
+    shown_grown x {laid = laid} {r = r} {depth = depth} {new = new} g h e f o b k n = record {
       holds = rw (← e) (holds_on S.holds g.adds);
-      complete-shown = g.row ∙ ap (λ m. (m + length new - 1) ∷ completeAt done depth) S.holds.many ∙ f;
-      openers-shown = rw g.open-then o;
-      brought-shown = rw g.open-then b;
-      known-shown = k;
-      ends-shown = rw g.ended (S.ends-shown ∙ n);
+      complete_shown = g.row ∙ ap (λ m. (m + length new - 1) ∷ complete_at done depth) S.holds.many ∙ f;
+      openers_shown = rw g.open_then o;
+      brought_shown = rw g.open_then b;
+      known_shown = k;
+      ends_shown = rw g.ended (S.ends_shown ∙ n);
       tall = omega (arith, g.tall, g.adds.many);
-      few-ends = omega (arith, g.ended, S.few-ends);
-      long-ends = S.long-ends;
-      long-done = g.long ∙ S.long-done;
-      long-opened = S.long-opened;
+      few_ends = omega (arith, g.ended, S.few_ends);
+      long_ends = S.long_ends;
+      long_done = g.long ∙ S.long_done;
+      long_opened = S.long_opened;
     }
 
-    pub shown-stand :
+    pub shown_stand :
         (l : Leaf) {now laid : List ℕ} {r : State}
-        → Grows out done s s.complete s.openers (leafNodes production table condition s.made.nodes l) now laid r
+        → Grows out done s s.complete s.openers (leaf_nodes production table condition s.made.nodes l) now laid r
         → Shown text ts now patterns ends laid opened r (after production table condition (stands l) st)
-    unfolding newNodes completeAfter openersAfter broughtAfter knownAfter endsAfter
-    shown-stand l g =
-        let e : leafNodes production table condition s.made.nodes l ≡ leafNodes production table condition (length st.nodes) l =
-        ap (λ k. leafNodes production table condition k l) S.holds.many in
-        shown-grown (stands l) g (omega (arith, S.tall, leaf-length production table condition s.made.nodes l, leaf-some l)) e
-        (ap₂ (λ new below. (length st.nodes + length new - 1) ∷ below) e S.complete-shown) S.openers-shown S.brought-shown S.known-shown refl
+    unfolding new_nodes complete_after openers_after brought_after known_after ends_after
+    shown_stand l g =
+        let e : leaf_nodes production table condition s.made.nodes l ≡ leaf_nodes production table condition (length st.nodes) l =
+        ap (λ k. leaf_nodes production table condition k l) S.holds.many in
+        shown_grown (stands l) g (omega (arith, S.tall, leaf_length production table condition s.made.nodes l, leaf_some l)) e
+        (ap₂ (λ new below. (length st.nodes + length new - 1) ∷ below) e S.complete_shown) S.openers_shown S.brought_shown S.known_shown refl
 
     -- The operand is the latest that is complete.
     module _ (h : 1 ≤ s.complete) where
       operand : latest st.complete ≡ get_or done (s.complete - 1) 0
-      operand = ap latest (sym S.complete-shown) ∙ row-latest (λ i. get_or done i 0) s.complete h
+      operand = ap latest (sym S.complete_shown) ∙ row_latest (λ i. get_or done i 0) s.complete h
 
-      below : completeAt done (s.complete - 1) ≡ drop 1 st.complete
-      below = sym (row_drop (λ i. get_or done i 0) s.complete h) ∙ ap (drop 1) S.complete-shown
+      below : complete_at done (s.complete - 1) ≡ drop 1 st.complete
+      below = sym (row_drop (λ i. get_or done i 0) s.complete h) ∙ ap (drop 1) S.complete_shown
 
-      pub shown-follow :
+      pub shown_follow :
           (n : ℕ) → Unary n → {now laid : List ℕ} {r : State}
-          → Grows out done s (s.complete - 1) s.openers (unaryNodes n (get_or done (s.complete - 1) 0) s.made.nodes) now laid r
+          → Grows out done s (s.complete - 1) s.openers (unary_nodes n (get_or done (s.complete - 1) 0) s.made.nodes) now laid r
           → Shown text ts now patterns ends laid opened r (after production table condition (plain_of n) st)
-      unfolding newNodes completeAfter openersAfter broughtAfter knownAfter endsAfter
-      shown-follow n (a-front p e u) g =
-          let v : unaryNodes n (get_or done (s.complete - 1) 0) s.made.nodes ≡ prefixNodes p (latest st.complete) (length st.nodes) =
-          u (get_or done (s.complete - 1) 0) s.made.nodes ∙ ap₂ (prefixNodes p) (sym operand) S.holds.many in
-          rw e (shown-grown (front p) g (omega (arith, S.tall)) v
-          (ap₂ (λ new below. (length st.nodes + length new - 1) ∷ below) v below) S.openers-shown S.brought-shown S.known-shown refl)
-      shown-follow n (a_back q e u) g =
-          let v : unaryNodes n (get_or done (s.complete - 1) 0) s.made.nodes ≡ suffixNodes q (latest st.complete) (length st.nodes) =
-          u (get_or done (s.complete - 1) 0) s.made.nodes ∙ ap₂ (suffixNodes q) (sym operand) S.holds.many in
-          rw e (shown-grown (back q) g (omega (arith, S.tall)) v
-          (ap₂ (λ new below. (length st.nodes + length new - 1) ∷ below) v below) S.openers-shown S.brought-shown S.known-shown refl)
+      unfolding new_nodes complete_after openers_after brought_after known_after ends_after
+      shown_follow n (a_front p e u) g =
+          let v : unary_nodes n (get_or done (s.complete - 1) 0) s.made.nodes ≡ prefix_nodes p (latest st.complete) (length st.nodes) =
+          u (get_or done (s.complete - 1) 0) s.made.nodes ∙ ap₂ (prefix_nodes p) (sym operand) S.holds.many in
+          rw e (shown_grown (front p) g (omega (arith, S.tall)) v
+          (ap₂ (λ new below. (length st.nodes + length new - 1) ∷ below) v below) S.openers_shown S.brought_shown S.known_shown refl)
+      shown_follow n (a_back q e u) g =
+          let v : unary_nodes n (get_or done (s.complete - 1) 0) s.made.nodes ≡ suffix_nodes q (latest st.complete) (length st.nodes) =
+          u (get_or done (s.complete - 1) 0) s.made.nodes ∙ ap₂ (suffix_nodes q) (sym operand) S.holds.many in
+          rw e (shown_grown (back q) g (omega (arith, S.tall)) v
+          (ap₂ (λ new below. (length st.nodes + length new - 1) ∷ below) v below) S.openers_shown S.brought_shown S.known_shown refl)
 
       -- The latest operator ends.
-      pub shown-leave :
+      pub shown_leave :
           1 ≤ s.openers → {now known laid : List ℕ} {r : State}
           → Grows out done s (s.complete - 1) (s.openers - 1)
-          (operatorNode production table condition (openerIn text opened (s.openers - 1)) (get_or done (s.complete - 1) 0) ∷ [])
+          (operator_node production table condition (opener_in text opened (s.openers - 1)) (get_or done (s.complete - 1) 0) ∷ [])
           now laid r
-          → Ends patterns ts (broughtIn text opened (s.openers - 1)) (s.made.nodes - 1) known
+          → Ends patterns ts (brought_in text opened (s.openers - 1)) (s.made.nodes - 1) known
           → Shown text ts now known ends laid opened r (after production table condition leaves st)
-      unfolding newNodes completeAfter openersAfter broughtAfter knownAfter endsAfter
-      shown-leave k {known = known} g d =
-          let fo : ℕ → Opener = openerIn text opened in
-          let fb : ℕ → Option Name = broughtIn text opened in
-          let o : fo (s.openers - 1) ∷ row_of fo (s.openers - 1) ≡ st.openers = sym (row_first fo s.openers k) ∙ S.openers-shown in
-          let b : fb (s.openers - 1) ∷ row_of fb (s.openers - 1) ≡ st.brought = sym (row_first fb s.openers k) ∙ S.brought-shown in
-          let v : operatorNode production table condition (fo (s.openers - 1)) (get_or done (s.complete - 1) 0) ∷ [] ≡ closing production table condition st.openers (latest st.complete) =
+      unfolding new_nodes complete_after openers_after brought_after known_after ends_after
+      shown_leave k {known = known} g d =
+          let fo : ℕ → Opener = opener_in text opened in
+          let fb : ℕ → Option Name = brought_in text opened in
+          let o : fo (s.openers - 1) ∷ row_of fo (s.openers - 1) ≡ st.openers = sym (row_first fo s.openers k) ∙ S.openers_shown in
+          let b : fb (s.openers - 1) ∷ row_of fb (s.openers - 1) ≡ st.brought = sym (row_first fb s.openers k) ∙ S.brought_shown in
+          let v : operator_node production table condition (fo (s.openers - 1)) (get_or done (s.complete - 1) 0) ∷ [] ≡ closing production table condition st.openers (latest st.complete) =
           ap₂ (closing production table condition) o (sym operand) in
-          shown-grown leaves g (omega (arith, S.tall)) v (ap₂ (λ new below. (length st.nodes + length new - 1) ∷ below) v below)
+          shown_grown leaves g (omega (arith, S.tall)) v (ap₂ (λ new below. (length st.nodes + length new - 1) ∷ below) v below)
           (ap (drop 1) o) (ap (drop 1) b)
           (subst (λ m. Tells known ts (note m (ends_at (length st.nodes - 1)) st.known)) (ap bringing b)
-          (subst (λ n. Tells known ts (note (fb (s.openers - 1)) (ends_at (n - 1)) st.known)) S.holds.many (d.tells st.known S.known-shown))) refl
+          (subst (λ n. Tells known ts (note (fb (s.openers - 1)) (ends_at (n - 1)) st.known)) S.holds.many (d.tells st.known S.known_shown))) refl
 
-    pub shown-join :
+    pub shown_join :
         2 ≤ s.complete → (n : ℕ) → Joining n → {now laid : List ℕ} {r : State}
-        → Grows out done s (s.complete - 2) s.openers (binaryOf n (get_or done (s.complete - 2) 0) (get_or done (s.complete - 1) 0) ∷ []) now laid r
+        → Grows out done s (s.complete - 2) s.openers (binary_of n (get_or done (s.complete - 2) 0) (get_or done (s.complete - 1) 0) ∷ []) now laid r
         → Shown text ts now patterns ends laid opened r (after production table condition (plain_of n) st)
-    unfolding newNodes completeAfter openersAfter broughtAfter knownAfter endsAfter
-    shown-join h n (a-join b e u) g =
+    unfolding new_nodes complete_after openers_after brought_after known_after ends_after
+    shown_join h n (a_join b e u) g =
         let f : ℕ → ℕ = λ i. get_or done i 0 in
-        let x : latest (drop 1 st.complete) ≡ f (s.complete - 2) = ap (λ l. latest (drop 1 l)) (sym S.complete-shown) ∙ row-second f s.complete h in
-        let v : binaryOf n (f (s.complete - 2)) (f (s.complete - 1)) ∷ [] ≡ binaryNode b (latest (drop 1 st.complete)) (latest st.complete) ∷ [] =
-        ap (λ z. z ∷ []) (u (f (s.complete - 2)) (f (s.complete - 1)) ∙ ap₂ (binaryNode b) (sym x) (sym (operand (omega arith)))) in
-        let w : completeAt done (s.complete - 2) ≡ drop 2 st.complete = sym (row-drop-two f s.complete h) ∙ ap (drop 2) S.complete-shown in
-        rw e (shown-grown (joins b) g (omega (arith, S.tall)) v (ap₂ (λ new below. (length st.nodes + length new - 1) ∷ below) v w)
-        S.openers-shown S.brought-shown S.known-shown refl)
+        let x : latest (drop 1 st.complete) ≡ f (s.complete - 2) = ap (λ l. latest (drop 1 l)) (sym S.complete_shown) ∙ row_second f s.complete h in
+        let v : binary_of n (f (s.complete - 2)) (f (s.complete - 1)) ∷ [] ≡ binary_node b (latest (drop 1 st.complete)) (latest st.complete) ∷ [] =
+        ap (λ z. z ∷ []) (u (f (s.complete - 2)) (f (s.complete - 1)) ∙ ap₂ (binary_node b) (sym x) (sym (operand (omega arith)))) in
+        let w : complete_at done (s.complete - 2) ≡ drop 2 st.complete = sym (row_drop_two f s.complete h) ∙ ap (drop 2) S.complete_shown in
+        rw e (shown_grown (joins b) g (omega (arith, S.tall)) v (ap₂ (λ new below. (length st.nodes + length new - 1) ∷ below) v w)
+        S.openers_shown S.brought_shown S.known_shown refl)
 
     -- What adds no node.
-    shown-none :
-        (x : Symbol) {known ended laid : List ℕ} {r : State} → r.made ≡ s.made → newNodes production table condition x st ≡ []
-        → completeAt done r.complete ≡ completeAfter production table condition x st → r.complete ≤ r.made.nodes
-        → openersAt text laid r.openers ≡ openersAfter x st
-        → broughtAt text laid r.openers ≡ broughtAfter x st
-        → Tells known ts (knownAfter x st) → take r.ended ended ≡ endsAfter x st
+    shown_none :
+        (x : Symbol) {known ended laid : List ℕ} {r : State} → r.made ≡ s.made → new_nodes production table condition x st ≡ []
+        → complete_at done r.complete ≡ complete_after production table condition x st → r.complete ≤ r.made.nodes
+        → openers_at text laid r.openers ≡ openers_after x st
+        → brought_at text laid r.openers ≡ brought_after x st
+        → Tells known ts (known_after x st) → take r.ended ended ≡ ends_after x st
         → r.ended ≤ length ended → length ended ≡ length ends → length laid ≡ length opened
         → Shown text ts out known ended done laid r (after production table condition x st)
     unfolding after
-    shown-none x m e c l o b k n i u v = record {
+    shown_none x m e c l o b k n i u v = record {
       holds = rw (m, e, append-nil st.nodes) S.holds;
-      complete-shown = c;
-      openers-shown = o;
-      brought-shown = b;
-      known-shown = k;
-      ends-shown = n;
+      complete_shown = c;
+      openers_shown = o;
+      brought_shown = b;
+      known_shown = k;
+      ends_shown = n;
       tall = l;
-      few-ends = i;
-      long-ends = u ∙ S.long-ends;
-      long-done = S.long-done;
-      long-opened = v ∙ S.long-opened;
+      few_ends = i;
+      long_ends = u ∙ S.long_ends;
+      long_done = S.long_done;
+      long_opened = v ∙ S.long_opened;
     }
 
-    pub shown-enter :
+    pub shown_enter :
         {t : Token} {known laid : List ℕ} {r : State} → Enters text ts patterns opened s t known laid r
-        → Shown text ts out known ends done laid r (after production table condition (enters (openerAt text t)) st)
-    unfolding newNodes completeAfter openersAfter broughtAfter knownAfter endsAfter
-    shown-enter {t = t} {r = r} g =
-        let o = openerAt text t in
+        → Shown text ts out known ends done laid r (after production table condition (enters (opener_at text t)) st)
+    unfolding new_nodes complete_after openers_after brought_after known_after ends_after
+    shown_enter {t = t} {r = r} g =
+        let o = opener_at text t in
         let m = ap (λ r. r.made) g.state in
         let c = ap (λ r. r.complete) g.state in
         let n = ap (λ r. r.openers) g.state in
         let e = ap (λ r. r.ended) g.state in
-        shown-none (enters o) m refl (rw c S.complete-shown) (rw (c, m) S.tall) (rw n (g.openers ∙ ap (λ l. o ∷ l) S.openers-shown))
-        (rw n (g.brought st.known S.known-shown ∙ ap (λ l. brings o st.known ∷ l) S.brought-shown)) (g.tells st.known S.known-shown)
-        (rw e S.ends-shown) (rw e S.few-ends) refl g.long.1
+        shown_none (enters o) m refl (rw c S.complete_shown) (rw (c, m) S.tall) (rw n (g.openers ∙ ap (λ l. o ∷ l) S.openers_shown))
+        (rw n (g.brought st.known S.known_shown ∙ ap (λ l. brings o st.known ∷ l) S.brought_shown)) (g.tells st.known S.known_shown)
+        (rw e S.ends_shown) (rw e S.few_ends) refl g.long.1
 
-    pub shown-begin :
+    pub shown_begin :
         (n : Name) {ended : List ℕ} {r : State} → Starts ends s ended r
         → Shown text ts out patterns ended done opened r (after production table condition (named n) st)
-    unfolding newNodes completeAfter openersAfter broughtAfter knownAfter endsAfter row_of
-    shown-begin n {ended} {r} g =
+    unfolding new_nodes complete_after openers_after brought_after known_after ends_after row_of
+    shown_begin n {ended} {r} g =
         let m = ap (λ r. r.made) g.state in
         let c = ap (λ r. r.complete) g.state in
         let o = ap (λ r. r.openers) g.state in
-        let d = g.ends-one in
-        shown-none (named n) m refl (rw c) (rw c (omega arith)) (rw o) (rw o) S.known-shown
-        (d.front ∙ rw (S.holds.many, S.holds.place, S.ends-shown)) (omega (arith, d.few, d.long)) d.long refl
+        let d = g.ends_one in
+        shown_none (named n) m refl (rw c) (rw c (omega arith)) (rw o) (rw o) S.known_shown
+        (d.front ∙ rw (S.holds.many, S.holds.place, S.ends_shown)) (omega (arith, d.few, d.long)) d.long refl

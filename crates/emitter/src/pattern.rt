@@ -4,10 +4,10 @@ ghost use Rattle.std.specs.Prelude.{◌≡◌, true, ◌≤◌, ◌<◌, length}
 ghost use Rattle.notation.specs.At.{name_at};
 ghost use Rattle.notation.specs.Naming.{member};
 ghost use Rattle.index.specs.Listed.{Ascending};
-ghost use Rattle.lexer.specs.Meant.{openerAt};
+ghost use Rattle.lexer.specs.Meant.{opener_at};
 ghost use Rattle.writer.specs.Named.{names_of};
 ghost use Rattle.emitter.specs.Known.{Begins};
-ghost use Rattle.emitter.specs.Shown.{broughtOf, Tabled, Marks, Ends};
+ghost use Rattle.emitter.specs.Shown.{brought_of, Tabled, Marks, Ends};
 
 use lexer::token::Token;
 use writer::named::place_of;
@@ -27,7 +27,7 @@ fn begin_pattern(text: &[u8], tables: &[u16], patterns: &mut [u16], p: usize) ->
 
 // The mark of the operator that a token begins. A def is noted.
 pub(crate) fn begin_operator(text: &[u8], tables: &[u16], patterns: &mut [u16], t: Token) -> u8
-    requires { Ascending (names_of text.now tables.now) × (length patterns.old ≡ length tables.now) × Tabled (names_of text.now tables.now) (openerAt text.now t) × (10 ≤ t.symbol) × (t.symbol ≤ 13) }
+    requires { Ascending (names_of text.now tables.now) × (length patterns.old ≡ length tables.now) × Tabled (names_of text.now tables.now) (opener_at text.now t) × (10 ≤ t.symbol) × (t.symbol ≤ 13) }
     ensures { Marks text.now (names_of text.now tables.now) patterns.old t patterns.new result }
 {
     let symbol = t.symbol;
@@ -53,7 +53,7 @@ pub(crate) fn end_pattern(
     node: u16,
 )
     requires { Ascending (names_of text.now tables.now) × (length patterns.old ≡ length tables.now) × (mark ≡ 9 → member (name_at text.now p) (names_of text.now tables.now) ≡ true) × (node < 512) }
-    ensures { Ends patterns.old (names_of text.now tables.now) (broughtOf mark (name_at text.now p)) node patterns.new }
+    ensures { Ends patterns.old (names_of text.now tables.now) (brought_of mark (name_at text.now p)) node patterns.new }
 {
     if mark == 9 {
         let i = place_of(text, tables, p);

@@ -4,16 +4,16 @@ ghost use Rattle.notation.specs.Tree.{Name};
 ghost use Rattle.notation.specs.At.{name_at};
 ghost use Rattle.notation.specs.Naming.{all, member};
 ghost use Rattle.notation.specs.Limits.{short};
-ghost use Rattle.notation.specs.Compile.{leafCount};
+ghost use Rattle.notation.specs.Compile.{leaf_count};
 ghost use Rattle.index.specs.Listed.{Ascending};
-ghost use Rattle.lexer.specs.Meant.{leafAt, openerAt};
+ghost use Rattle.lexer.specs.Meant.{leaf_at, opener_at};
 ghost use Rattle.walker.specs.Walks.{symbol_at};
 ghost use Rattle.writer.specs.Put.{Room};
-ghost use Rattle.writer.specs.Named.{names_of, leafBy, operatorBy, Numbered};
+ghost use Rattle.writer.specs.Named.{names_of, leaf_by, operator_by, Numbered};
 ghost use Rattle.writer.specs.Leaf.{LeafTaken};
-ghost use Rattle.writer.specs.Operator.{unaryNodes, binaryOf};
+ghost use Rattle.writer.specs.Operator.{unary_nodes, binary_of};
 ghost use Rattle.emitter.specs.Stage.{Stage};
-ghost use Rattle.emitter.specs.Shown.{openerIn, broughtIn, Tabled, Ends, Enters, Grows, Starts, Shown, Brought, Apt, Given, afterBy};
+ghost use Rattle.emitter.specs.Shown.{opener_in, brought_in, Tabled, Ends, Enters, Grows, Starts, Shown, Brought, Apt, Given, after_by};
 
 use crate::pattern::{begin_operator, end_pattern};
 use crate::state::{State, end_production, settle};
@@ -34,8 +34,8 @@ fn stand(
     t: Token,
 ) -> State
     requires ascending { Ascending (names_of text.now heads.now) × Numbered text.now tables.now switches.now × LeafTaken text.now t }
-    requires t_value { (all (λ b. b) (short (leafAt text.now t)) ≡ true) × Room out.old s.made (leafCount (leafAt text.now t)) × (length done.old ≡ 512) × (s.complete ≤ s.made.nodes) }
-    ensures { Grows out.old done.old s s.complete s.openers (leafBy text.now heads.now roots.now tables.now switches.now s.made.nodes (leafAt text.now t)) out.new done.new result }
+    requires t_value { (all (λ b. b) (short (leaf_at text.now t)) ≡ true) × Room out.old s.made (leaf_count (leaf_at text.now t)) × (length done.old ≡ 512) × (s.complete ≤ s.made.nodes) }
+    ensures { Grows out.old done.old s s.complete s.openers (leaf_by text.now heads.now roots.now tables.now switches.now s.made.nodes (leaf_at text.now t)) out.new done.new result }
 {
     let m = add_leaf(text, heads, roots, tables, switches, out, s.made, t);
     settle(done, m, s.complete, s.openers, s.ended)
@@ -43,8 +43,8 @@ fn stand(
 
 // A prefix or a suffix, behind its operand.
 fn follow(out: &mut [u8], done: &mut [u16; 512], s: State, symbol: u8) -> State
-    requires { (length done.old ≡ 512) × (1 ≤ s.complete) × (s.complete ≤ s.made.nodes) × Room out.old s.made (length (unaryNodes symbol (get_or done.old (s.complete - 1) 0) s.made.nodes)) }
-    ensures { Grows out.old done.old s (s.complete - 1) s.openers (unaryNodes symbol (get_or done.old (s.complete - 1) 0) s.made.nodes) out.new done.new result }
+    requires { (length done.old ≡ 512) × (1 ≤ s.complete) × (s.complete ≤ s.made.nodes) × Room out.old s.made (length (unary_nodes symbol (get_or done.old (s.complete - 1) 0) s.made.nodes)) }
+    ensures { Grows out.old done.old s (s.complete - 1) s.openers (unary_nodes symbol (get_or done.old (s.complete - 1) 0) s.made.nodes) out.new done.new result }
 {
     let depth = s.complete - 1;
     let m = add_unary(out, s.made, symbol, done[depth]);
@@ -54,7 +54,7 @@ fn follow(out: &mut [u8], done: &mut [u16; 512], s: State, symbol: u8) -> State
 // What joins two expressions, behind both.
 fn join(out: &mut [u8], done: &mut [u16; 512], s: State, symbol: u8) -> State
     requires { (length done.old ≡ 512) × (2 ≤ s.complete) × (s.complete ≤ s.made.nodes) × Room out.old s.made 1 }
-    ensures { Grows out.old done.old s (s.complete - 2) s.openers (binaryOf symbol (get_or done.old (s.complete - 2) 0) (get_or done.old (s.complete - 1) 0) ∷ []) out.new done.new result }
+    ensures { Grows out.old done.old s (s.complete - 2) s.openers (binary_of symbol (get_or done.old (s.complete - 2) 0) (get_or done.old (s.complete - 1) 0) ∷ []) out.new done.new result }
 {
     let last = s.complete - 1;
     let depth = s.complete - 2;
@@ -85,7 +85,7 @@ fn enter(
     s: State,
     t: Token,
 ) -> State
-    requires ascending { Ascending (names_of text.now tables.now) × (length patterns.old ≡ length tables.now) × Tabled (names_of text.now tables.now) (openerAt text.now t) × (10 ≤ t.symbol) × (t.symbol ≤ 13) }
+    requires ascending { Ascending (names_of text.now tables.now) × (length patterns.old ≡ length tables.now) × Tabled (names_of text.now tables.now) (opener_at text.now t) × (10 ≤ t.symbol) × (t.symbol ≤ 13) }
     requires name_bound { (t.name ≤ 65535) × (s.openers < 512) × (length opened.old ≡ 512) }
     ensures { Enters text.now (names_of text.now tables.now) patterns.old opened.old s t patterns.new opened.new result }
 {
@@ -114,8 +114,8 @@ fn leave(
 ) -> State
     requires numbered { Numbered text.now tables.now switches.now × (length patterns.old ≡ length tables.now) × (get_or opened.now (s.openers - 1) 0 % 16 ≡ 9 → member (name_at text.now (get_or opened.now (s.openers - 1) 0 / 16)) (names_of text.now tables.now) ≡ true) }
     requires room { Room out.old s.made 1 × (length done.old ≡ 512) × (length opened.now ≡ 512) × (1 ≤ s.complete) × (s.complete ≤ s.made.nodes) × (1 ≤ s.openers) × (s.openers ≤ 512) }
-    ensures by_index { (production : Name → ℕ) → Grows out.old done.old s (s.complete - 1) (s.openers - 1) (operatorBy text.now tables.now switches.now production (openerIn text.now opened.now (s.openers - 1)) (get_or done.old (s.complete - 1) 0) ∷ []) out.new done.new result }
-    ensures ends { Ends patterns.old (names_of text.now tables.now) (broughtIn text.now opened.now (s.openers - 1)) (s.made.nodes - 1) patterns.new }
+    ensures by_index { (production : Name → ℕ) → Grows out.old done.old s (s.complete - 1) (s.openers - 1) (operator_by text.now tables.now switches.now production (opener_in text.now opened.now (s.openers - 1)) (get_or done.old (s.complete - 1) 0) ∷ []) out.new done.new result }
+    ensures ends { Ends patterns.old (names_of text.now tables.now) (brought_in text.now opened.now (s.openers - 1)) (s.made.nodes - 1) patterns.new }
 {
     let m = s.made;
     let i = s.openers - 1;
@@ -161,7 +161,7 @@ pub(crate) fn take_symbol(
 ) -> State
     requires ascending { Ascending (names_of text.now heads.now) × Numbered text.now tables.now switches.now × (length text.now ≤ 65535) × Given text.now symbol t }
     requires shown { (st : Stage) × Shown text.now (names_of text.now tables.now) out.old patterns.old ends.old done.old opened.old s st × Brought (names_of text.now tables.now) st.brought × Apt (names_of text.now tables.now) (symbol_at text.now symbol t) s }
-    ensures { (st : Stage) → Shown text.now (names_of text.now tables.now) out.old patterns.old ends.old done.old opened.old s st → Shown text.now (names_of text.now tables.now) out.new patterns.new ends.new done.new opened.new result (afterBy text.now heads.now roots.now tables.now switches.now (symbol_at text.now symbol t) st) }
+    ensures { (st : Stage) → Shown text.now (names_of text.now tables.now) out.old patterns.old ends.old done.old opened.old s st → Shown text.now (names_of text.now tables.now) out.new patterns.new ends.new done.new opened.new result (after_by text.now heads.now roots.now tables.now switches.now (symbol_at text.now symbol t) st) }
 {
     if symbol == 0 {
         return begin(ends, s);

@@ -4,7 +4,7 @@ use Rattle.std.specs.Prelude.{ℕ, zero, suc, ◌+◌, Bool, false, List, [], �
 use Rattle.grammar.specs.Expr.{Expr, Empty, Byte, Range, Any, Text, Sequence, Choice, Star, Not, Call, Def, Match, Is, Isa, Exists, Block, Local, If, On}
 use Rattle.grammar.specs.Grammar.{Grammar}
 use Rattle.format.specs.Reading.{Reading, got, fault, pick, ◌then◌}
-use Rattle.format.specs.Number.{numberAt}
+use Rattle.format.specs.Number.{number_at}
 
 -- Whether n is at least `low` and below `stop`.
 abbrev pub inside : ℕ → ℕ → ℕ → Bool
@@ -26,7 +26,7 @@ module _ (image : List ℕ) where
   -- A number of the image that is at least `low` and below `stop`, else the refusal `why`, placed at the number. What is cut
   -- or badly written is 2 or 3 before its range is looked at.
   abbrev pub bounded : (why low stop at : ℕ) → Reading ℕ
-  bounded why low stop at = numberAt image at then λ n next. pick (inside low stop n) (got n next) (fault why at)
+  bounded why low stop at = number_at image at then λ n next. pick (inside low stop n) (got n next) (fault why at)
 
   -- The same for a range that 01 gives by both its ends: "T (0 to 8)".
   abbrev pub within : (why low high at : ℕ) → Reading ℕ
@@ -42,8 +42,8 @@ module _ (image : List ℕ) where
   raw k at = pick (leb (at + k) (length image)) (got (take k (drop at image)) (at + k)) (fault 2 (length image))
 
   -- A truth: 0 or 1.
-  abbrev pub truthAt : ℕ → Reading ℕ
-  truthAt = within 7 0 1
+  abbrev pub truth_at : ℕ → Reading ℕ
+  truth_at = within 7 0 1
 
   module _ (T C N own : ℕ) where
     -- The operands of each kind, by its tag: 01's table, line by line. A range's hi is at least its lo: "For a range the fault is
@@ -67,18 +67,18 @@ module _ (image : List ℕ) where
         ∷ (λ at. below T at then λ t at. got (Exists t) at)
         ∷ (λ at. below T at then λ t at. below own at then λ a at. got (Block t a) at)
         ∷ (λ at. below T at then λ t at. below own at then λ a at. got (Local t a) at)
-        ∷ (λ at. below C at then λ c at. truthAt at then λ w at. got (If c (eqb w 1)) at)
-        ∷ (λ at. below C at then λ c at. truthAt at then λ w at. below own at then λ a at. got (On c (eqb w 1) a) at)
+        ∷ (λ at. below C at then λ c at. truth_at at then λ w at. got (If c (eqb w 1)) at)
+        ∷ (λ at. below C at then λ c at. truth_at at then λ w at. below own at then λ a at. got (On c (eqb w 1) a) at)
         ∷ []
 
     -- A node: its tag, 0 to 18 (else refusal 6, placed at the tag), and its operands. Each tag has its line above, so the default that
     -- `get_or` asks for is never reached.
-    abbrev pub nodeAt : ℕ → Reading Expr
-    nodeAt at = within 6 0 18 at then λ tag at. get_or kinds tag (fault 6) at
+    abbrev pub node_at : ℕ → Reading Expr
+    node_at at = within 6 0 18 at then λ tag at. get_or kinds tag (fault 6) at
 
   -- "In order: edition (1); tables T (0 to 8); conditions C (0 to 8); nodes N (1 to 512); start node".
-  abbrev pub headAt : Reading Head
-  headAt =
+  abbrev pub head_at : Reading Head
+  head_at =
       within 4 1 1 0 then λ edition at.
       within 5 0 8 at then λ tables at.
       within 5 0 8 at then λ conditions at.
@@ -87,17 +87,17 @@ module _ (image : List ℕ) where
       got (record { tables = tables; conditions = conditions; nodes = nodes; start = start }) at
 
   -- "for each table the node of its pattern"
-  abbrev pub patternsAt : Head → ℕ → Reading (List ℕ)
-  patternsAt h = times (λ t. below h.nodes) 0 h.tables
+  abbrev pub patterns_at : Head → ℕ → Reading (List ℕ)
+  patterns_at h = times (λ t. below h.nodes) 0 h.tables
 
   -- "then N nodes"
-  abbrev pub nodesAt : Head → ℕ → Reading (List Expr)
-  nodesAt h = times (nodeAt h.tables h.conditions h.nodes) 0 h.nodes
+  abbrev pub nodes_at : Head → ℕ → Reading (List Expr)
+  nodes_at h = times (node_at h.tables h.conditions h.nodes) 0 h.nodes
 
   abbrev pub body_at : Head → ℕ → Reading Grammar
   body_at h at =
-      patternsAt h at then λ patterns at.
-      nodesAt h at then λ nodes at.
+      patterns_at h at then λ patterns at.
+      nodes_at h at then λ nodes at.
       got (record { conditions = h.conditions; start = h.start; patterns = patterns; nodes = nodes }) at
 
 -- What is said of an image as a whole.
@@ -111,5 +111,5 @@ ended image (got g at) = pick (ltb at (length image)) (refused 8 at) (good g)
 ended image (fault number place) = refused number place
 
 -- "image over 16,384 bytes, seen before all else": refusal 1, place 0.
-abbrev pub readImage : List ℕ → Checked
-readImage image = pick (ltb 16384 (length image)) (refused 1 0) (ended image (headAt image then body_at image))
+abbrev pub read_image : List ℕ → Checked
+read_image image = pick (ltb 16384 (length image)) (refused 1 0) (ended image (head_at image then body_at image))

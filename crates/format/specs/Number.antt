@@ -6,12 +6,12 @@ use Rattle.format.specs.Reading.{Reading, got, fault, pick}
 -- ## How a number is written
 
 -- The bytes that write a number of at most two groups, the lowest group first.
-abbrev pub twoGroups : ℕ → List ℕ
-twoGroups n = pick (ltb n 128) (n ∷ []) ((n % 128 + 128) ∷ n / 128 ∷ [])
+abbrev pub two_groups : ℕ → List ℕ
+two_groups n = pick (ltb n 128) (n ∷ []) ((n % 128 + 128) ∷ n / 128 ∷ [])
 
 -- The bytes that write a number of at most three, which hold every number below 2,097,152.
 abbrev pub groups : ℕ → List ℕ
-groups n = pick (ltb n 128) (n ∷ []) ((n % 128 + 128) ∷ twoGroups (n / 128))
+groups n = pick (ltb n 128) (n ∷ []) ((n % 128 + 128) ∷ two_groups (n / 128))
 
 -- ## How it is read
 
@@ -35,5 +35,5 @@ module _ (end at : ℕ) where
   first (b ∷ rest) = pick (ltb b 128) (got b (at + 1)) (second (b - 128) rest)
 
 -- The number at a place of an image, with the place after it.
-abbrev pub numberAt : List ℕ → ℕ → Reading ℕ
-numberAt image at = first (length image) at (drop at image)
+abbrev pub number_at : List ℕ → ℕ → Reading ℕ
+number_at image at = first (length image) at (drop at image)

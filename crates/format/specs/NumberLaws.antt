@@ -5,7 +5,7 @@ use Rattle.std.proofs.lemmas.Bool.{eqb-false}
 use Rattle.grammar.specs.Sound.{Bytes}
 use Rattle.format.specs.Reading.{Reading, got, fault, pick}
 use Rattle.format.specs.ReadingLaws.{All, holds, stops, pick_all}
-use Rattle.format.specs.Number.{twoGroups, groups, third, second, first, numberAt}
+use Rattle.format.specs.Number.{two_groups, groups, third, second, first, number_at}
 
 -- A refusal before the end of an image that is not too long: one of 2 to 7. A cut is placed at the image's end, a wrong edition at 0, and every
 -- refusal but a cut at a byte of the image.
@@ -27,26 +27,26 @@ pos : {n : ℕ} → (n ≡ 0 → ⊥) → 0 < n
 pos {n} h = omega arith
 
 -- The quotient and the rest of a lowest group r under higher ones q.
-div-of : (q r : ℕ) → r < 128 → (r + q * 128) / 128 ≡ q
-div-of q r h = omega (arith, div-add-mod' (r + q * 128) 128, mod-lt (r + q * 128) {m = 128} (omega arith))
+div_of : (q r : ℕ) → r < 128 → (r + q * 128) / 128 ≡ q
+div_of q r h = omega (arith, div-add-mod' (r + q * 128) 128, mod-lt (r + q * 128) {m = 128} (omega arith))
 
-mod-of : (q r : ℕ) → r < 128 → (r + q * 128) % 128 ≡ r
-mod-of q r h = omega (arith, div-add-mod' (r + q * 128) 128, mod-lt (r + q * 128) {m = 128} (omega arith))
+mod_of : (q r : ℕ) → r < 128 → (r + q * 128) % 128 ≡ r
+mod_of q r h = omega (arith, div-add-mod' (r + q * 128) 128, mod-lt (r + q * 128) {m = 128} (omega arith))
 
-three-of : (b c d : ℕ) → b < 128 → c < 128 → 0 < d → d < 128 → groups (b + c * 128 + d * 16384) ≡ (b + 128) ∷ (c + 128) ∷ d ∷ []
-three-of b c d hb hc hd hd' =
+three_of : (b c d : ℕ) → b < 128 → c < 128 → 0 < d → d < 128 → groups (b + c * 128 + d * 16384) ≡ (b + 128) ∷ (c + 128) ∷ d ∷ []
+three_of b c d hb hc hd hd' =
     let e : b + c * 128 + d * 16384 ≡ b + (c + d * 128) * 128 = omega arith in
     rw e (rw (
       le-ltb (b + (c + d * 128) * 128) 128 (omega arith),
-      mod-of (c + d * 128) b hb,
-      div-of (c + d * 128) b hb,
+      mod_of (c + d * 128) b hb,
+      div_of (c + d * 128) b hb,
       le-ltb (c + d * 128) 128 (omega arith),
-      mod-of d c hc,
-      div-of d c hc,
+      mod_of d c hc,
+      div_of d c hc,
     ))
 
-two-of : (b c : ℕ) → b < 128 → 0 < c → c < 128 → groups (b + c * 128) ≡ (b + 128) ∷ c ∷ []
-two-of b c hb hc hc' = rw (le-ltb (b + c * 128) 128 (omega arith), mod-of c b hb, div-of c b hb, lt-ltb c 128 hc')
+two_of : (b c : ℕ) → b < 128 → 0 < c → c < 128 → groups (b + c * 128) ≡ (b + 128) ∷ c ∷ []
+two_of b c hb hc hc' = rw (le-ltb (b + c * 128) 128 (omega arith), mod_of c b hb, div_of c b hb, lt-ltb c 128 hc')
 
 one_of : (b : ℕ) → b < 128 → groups b ≡ b ∷ []
 one_of b h = rw (lt-ltb b 128 h)
@@ -55,12 +55,12 @@ wrote : {l : List ℕ} {at n next : ℕ} (u t : List ℕ) → groups n ≡ u →
 wrote {at =
     at} u t e s p h = record { rest = t; split = s ∙ ap (λ v. v ++ t) (sym e); place = p ∙ ap (λ v. at + length v) (sym e); small = h }
 
-back-up : (b : ℕ) → 128 ≤ b → b - 128 + 128 ≡ b
-back-up b h = omega arith
+back_up : (b : ℕ) → 128 ≤ b → b - 128 + 128 ≡ b
+back_up b h = omega arith
 
 -- A number is written in one byte or more.
-pub groups-some : (n : ℕ) → 1 ≤ length (groups n)
-groups-some n = some (ltb n 128) (ltb (n / 128) 128)
+pub groups_some : (n : ℕ) → 1 ≤ length (groups n)
+groups_some n = some (ltb n 128) (ltb (n / 128) 128)
   where
     some :
         (s t : Bool) → 1 ≤ length (pick s (n ∷ []) ((n % 128 + 128) ∷ pick t (n / 128 ∷ []) ((n / 128 % 128 + 128) ∷ n / 128 / 128 ∷ [])))
@@ -68,46 +68,46 @@ groups-some n = some (ltb n 128) (ltb (n / 128) 128)
     some false t = omega arith
 
 module _ (end at : ℕ) where
-  cut-here : {A : Type 0} {P : A → ℕ → Type 0} → All P (Refusal end) (fault 2 end)
-  cut-here = stops {n = 2} {place = end} (omega arith)
+  cut_here : {A : Type 0} {P : A → ℕ → Type 0} → All P (Refusal end) (fault 2 end)
+  cut_here = stops {n = 2} {place = end} (omega arith)
 
   module _ (inn : at < end) where
     badly : {A : Type 0} {P : A → ℕ → Type 0} → All P (Refusal end) (fault 3 at)
     badly = stops {n = 3} {place = at} (omega arith)
 
-    third-all :
+    third_all :
         (b c : ℕ) (l : List ℕ) → 128 ≤ b → b ≤ 255 → 128 ≤ c → c ≤ 255 → Bytes l
         → All (Wrote (b ∷ c ∷ l) at) (Refusal end) (third end at (b - 128 + (c - 128) * 128) l)
-    third-all b c [] hb hb' hc hc' ok = cut-here
-    third-all b c (d ∷ t) hb hb' hc hc' ok = pick_all (eqb d 0) (λ _. badly) (λ z. pick_all (ltb d 128)
+    third_all b c [] hb hb' hc hc' ok = cut_here
+    third_all b c (d ∷ t) hb hb' hc hc' ok = pick_all (eqb d 0) (λ _. badly) (λ z. pick_all (ltb d 128)
         (λ e. holds (wrote (b ∷ c ∷ d ∷ []) t
-        (three-of (b - 128) (c - 128) d (omega arith) (omega arith) (pos (eqb-false d 0 z)) (ltb-true d 128 e)
-        ∙ rw (back-up b hb, back-up c hc)) refl refl (omega (arith, ltb-true d 128 e))))
+        (three_of (b - 128) (c - 128) d (omega arith) (omega arith) (pos (eqb-false d 0 z)) (ltb-true d 128 e)
+        ∙ rw (back_up b hb, back_up c hc)) refl refl (omega (arith, ltb-true d 128 e))))
         (λ _. badly))
 
-    second-all : (b : ℕ) (l : List ℕ) → 128 ≤ b → b ≤ 255 → Bytes l → All (Wrote (b ∷ l) at) (Refusal end) (second end at (b - 128) l)
-    second-all b [] hb hb' ok = cut-here
-    second-all b (c ∷ t) hb hb' ok = pick_all (eqb c 0) (λ _. badly) (λ z. pick_all (ltb c 128)
+    second_all : (b : ℕ) (l : List ℕ) → 128 ≤ b → b ≤ 255 → Bytes l → All (Wrote (b ∷ l) at) (Refusal end) (second end at (b - 128) l)
+    second_all b [] hb hb' ok = cut_here
+    second_all b (c ∷ t) hb hb' ok = pick_all (eqb c 0) (λ _. badly) (λ z. pick_all (ltb c 128)
         (λ e. holds (wrote (b ∷ c ∷ []) t
-        (two-of (b - 128) c (omega arith) (pos (eqb-false c 0 z)) (ltb-true c 128 e) ∙ rw (back-up b hb)) refl refl
+        (two_of (b - 128) c (omega arith) (pos (eqb-false c 0 z)) (ltb-true c 128 e) ∙ rw (back_up b hb)) refl refl
         (omega (arith, ltb-true c 128 e))))
-        (λ e. third-all b c t hb hb' (ltb-false c 128 e) (ok 0) (λ i. ok (suc i))))
+        (λ e. third_all b c t hb hb' (ltb-false c 128 e) (ok 0) (λ i. ok (suc i))))
 
   -- What was read as a number is how that number is written; else the refusal is 2, at the end, or 3, at the number.
-  pub first-all : (l : List ℕ) → at + length l ≡ end → Bytes l → All (Wrote l at) (Refusal end) (first end at l)
-  first-all [] long ok = cut-here
-  first-all (b ∷ t) long ok = pick_all (ltb b 128)
+  pub first_all : (l : List ℕ) → at + length l ≡ end → Bytes l → All (Wrote l at) (Refusal end) (first end at l)
+  first_all [] long ok = cut_here
+  first_all (b ∷ t) long ok = pick_all (ltb b 128)
       (λ e. holds (wrote (b ∷ []) t (one_of b (ltb-true b 128 e)) refl refl (omega (arith, ltb-true b 128 e))))
-      (λ e. second-all (omega arith) b t (ltb-false b 128 e) (ok 0) (λ i. ok (suc i)))
+      (λ e. second_all (omega arith) b t (ltb-false b 128 e) (ok 0) (λ i. ok (suc i)))
 
 module _ (end at : ℕ) where
-  read-two : (b c n : ℕ) (t : List ℕ) → 128 ≤ b → 0 < c → c < 128 → b - 128 + c * 128 ≡ n → first end at (b ∷ c ∷ t) ≡ got n (at + 2)
-  read-two b c n t hb hc hc' e = rw (le-ltb b 128 hb, ne_eqb c 0 (λ z. omega arith), lt-ltb c 128 hc') (ap (λ m. got m (at + 2)) e)
+  read_two : (b c n : ℕ) (t : List ℕ) → 128 ≤ b → 0 < c → c < 128 → b - 128 + c * 128 ≡ n → first end at (b ∷ c ∷ t) ≡ got n (at + 2)
+  read_two b c n t hb hc hc' e = rw (le-ltb b 128 hb, ne_eqb c 0 (λ z. omega arith), lt-ltb c 128 hc') (ap (λ m. got m (at + 2)) e)
 
-  read-three :
+  read_three :
       (b c d n : ℕ) (t : List ℕ) → 128 ≤ b → 128 ≤ c → 0 < d → d < 128 → b - 128 + (c - 128) * 128 + d * 16384 ≡ n
       → first end at (b ∷ c ∷ d ∷ t) ≡ got n (at + 3)
-  read-three b c d n t hb hc hd hd' e =
+  read_three b c d n t hb hc hd hd' e =
       rw (le-ltb b 128 hb, ne_eqb c 0 (λ z. omega arith), le-ltb c 128 hc, ne_eqb d 0 (λ z. omega arith), lt-ltb d 128 hd')
       (ap (λ m. got m (at + 3)) e)
 
@@ -129,11 +129,11 @@ module _ (end at : ℕ) where
 
       two :
           (s : Bool) → ltb (n / 128) 128 ≡ s → 128 ≤ n
-          → first end at (((n % 128 + 128) ∷ twoGroups (n / 128)) ++ t) ≡ got n (at + length ((n % 128 + 128) ∷ twoGroups (n / 128)))
+          → first end at (((n % 128 + 128) ∷ two_groups (n / 128)) ++ t) ≡ got n (at + length ((n % 128 + 128) ∷ two_groups (n / 128)))
       two true e g =
-          rw e (read-two (n % 128 + 128) (n / 128) n t (omega arith) (omega (arith, sum, low)) (ltb-true _ _ e) (omega (arith, sum)))
+          rw e (read_two (n % 128 + 128) (n / 128) n t (omega arith) (omega (arith, sum, low)) (ltb-true _ _ e) (omega (arith, sum)))
       two false e g =
-          rw e (read-three (n % 128 + 128) (n / 128 % 128 + 128) (n / 128 / 128) n t (omega arith) (omega arith)
+          rw e (read_three (n % 128 + 128) (n / 128 % 128 + 128) (n / 128 / 128) n t (omega arith) (omega arith)
           (omega (arith, sum', low', ltb-false (n / 128) 128 e)) (omega (arith, sum, sum')) (omega (arith, sum, sum')))
 
       one : (s : Bool) → ltb n 128 ≡ s → first end at (groups n ++ t) ≡ got n (at + length (groups n))

@@ -8,11 +8,11 @@ use Rattle.grammar.specs.Grammar.{Grammar}
 use Rattle.grammar.specs.Sound.{Bytes, Fits, Sound}
 use Rattle.format.specs.Reading.{Reading, got, fault, pick, ◌then◌}
 use Rattle.format.specs.ReadingLaws.{All, holds, stops, ◌▹◌, ◌▹'◌, pick_all}
-use Rattle.format.specs.Number.{groups, first, numberAt}
-use Rattle.format.specs.NumberLaws.{Refusal, Wrote, groups-some, first-all}
-use Rattle.format.specs.Written.{written, numbers, bit, encodeNode, encode}
-use Rattle.format.specs.Image.{inside, times, Head, bounded, raw, kinds, nodeAt, headAt, body_at}
-use Rattle.format.specs.ImageLaws.{EachFrom, nil, ◌&◌, each_at, zero-plus, numbers-snoc, inside-low, inside-high, bytes_take, bit-back}
+use Rattle.format.specs.Number.{groups, first, number_at}
+use Rattle.format.specs.NumberLaws.{Refusal, Wrote, groups_some, first_all}
+use Rattle.format.specs.Written.{written, numbers, bit, encode_node, encode}
+use Rattle.format.specs.Image.{inside, times, Head, bounded, raw, kinds, node_at, head_at, body_at}
+use Rattle.format.specs.ImageLaws.{EachFrom, nil, ◌&◌, each_at, zero_plus, numbers_snoc, inside_low, inside_high, bytes_take, bit_back}
 
 module _ (image : List ℕ) where
   -- The bytes before the place `at` are v.
@@ -20,8 +20,8 @@ module _ (image : List ℕ) where
     pub front : take at image ≡ v
     pub within : at ≤ length image
 
-  pub front-on : {v : List ℕ} {at : ℕ} (u t : List ℕ) → Front v at → drop at image ≡ u ++ t → Front (v ++ u) (at + length u)
-  front-on {v} {at} u t f e = record {
+  pub front_on : {v : List ℕ} {at : ℕ} (u t : List ℕ) → Front v at → drop at image ≡ u ++ t → Front (v ++ u) (at + length u)
+  front_on {v} {at} u t f e = record {
     front = take-add at (length u) image ∙ rw (e, take-append_seam u t) (ap (λ l. l ++ u) f.front);
     within = omega (arith, f.within, simp (length-drop, length-append) at (ap length e));
   }
@@ -53,13 +53,13 @@ module _ (image : List ℕ) where
   abbrev pub Stop : ℕ → ℕ → Type 0
   Stop = Refusal (length image)
 
-  pub times-all :
+  pub times_all :
       {A : Type 0} (S : ℕ → A → Type 0) (w : A → List ℕ) (p : ℕ → ℕ → Reading A)
       → ((i at : ℕ) (u : List ℕ) → Front u at → All (One (S i) w u) Stop (p i at))
       → (i k : ℕ) (u : List ℕ) (at : ℕ) → Front u at → All (Many S w i k u) Stop (times p i k at)
-  times-all S w p each i zero u at f = holds {next = at} (record { fits = nil; count = refl; on = rw (append-nil u) f })
-  times-all S w p each i (suc k) u at f =
-      each i at u f ▹ λ x at r. times-all S w p each (suc i) k (u ++ w x) at r.on ▹ λ xs at m.
+  times_all S w p each i zero u at f = holds {next = at} (record { fits = nil; count = refl; on = rw (append-nil u) f })
+  times_all S w p each i (suc k) u at f =
+      each i at u f ▹ λ x at r. times_all S w p each (suc i) k (u ++ w x) at r.on ▹ λ xs at m.
       holds (record { fits = r.fits & m.fits; count = ap suc m.count; on = rw (append_assoc u (w x) (written w xs)) at m.on })
 
   module _ (bytes : Bytes image) where
@@ -67,26 +67,26 @@ module _ (image : List ℕ) where
     abbrev Reason : ℕ → ℕ → Type 0
     Reason why at = (4 ≤ why) × (why ≤ 7) × (why ≡ 4 → at ≡ 0)
 
-    number-all :
+    number_all :
         (why low stop : ℕ) {u ns : List ℕ} {at : ℕ} → Reason why at → Upto u ns at
         → All (Number low stop u ns) Stop (bounded image why low stop at)
-    number-all why low stop {u} {ns} {at} reason f =
-        first-all (length image) at (drop at image) (rw (length-drop at image) (omega (arith, f.here.within)))
+    number_all why low stop {u} {ns} {at} reason f =
+        first_all (length image) at (drop at image) (rw (length-drop at image) (omega (arith, f.here.within)))
         (λ i. rw (get_or-drop at image i 0) (bytes (at + i)))
         ▹ λ n next w. pick_all (inside low stop n) (λ e. holds (record {
-          least = inside-low low stop n e;
-          under = inside-high low stop n e;
+          least = inside_low low stop n e;
+          under = inside_high low stop n e;
           on =
               record {
-                here = rw (numbers-snoc ns n, ← (append_assoc u (numbers ns) (groups n)), w.place)
-                    (front-on (groups n) w.rest f.here w.split);
+                here = rw (numbers_snoc ns n, ← (append_assoc u (numbers ns) (groups n)), w.place)
+                    (front_on (groups n) w.rest f.here w.split);
               };
         }))
         (λ _. stops (outside n w.rest w.split))
       where
         outside : (n : ℕ) (t : List ℕ) → drop at image ≡ groups n ++ t → Stop why at
         outside n t e =
-            let some : at < length image = omega (arith, groups-some n, simp (length-drop, length-append) at (ap length e)) in
+            let some : at < length image = omega (arith, groups_some n, simp (length-drop, length-append) at (ap length e)) in
             record {
               least = omega (arith, reason.0);
               most = reason.1;
@@ -96,13 +96,13 @@ module _ (image : List ℕ) where
             }
 
     operand : (low stop : ℕ) {u ns : List ℕ} {at : ℕ} → Upto u ns at → All (Number low stop u ns) Stop (bounded image 7 low stop at)
-    operand low stop f = number-all 7 low stop (omega arith) f
+    operand low stop f = number_all 7 low stop (omega arith) f
 
     start : {u : List ℕ} {at : ℕ} → Front u at → Upto u [] at
     start {u} f = record { here = rw (append-nil u) f }
 
-    raw-all : (k : ℕ) {v : List ℕ} {at : ℕ} → Front v at → All (Raw k v) Stop (raw image k at)
-    raw-all k {v} {at} f = pick_all (leb (at + k) (length image))
+    raw_all : (k : ℕ) {v : List ℕ} {at : ℕ} → Front v at → All (Raw k v) Stop (raw image k at)
+    raw_all k {v} {at} f = pick_all (leb (at + k) (length image))
         (λ e. holds (record {
           long = length-take-le k (drop at image) (rw (length-drop at image) (omega (arith, leb-true (at + k) (length image) e)));
           small = bytes_take k (drop at image) (λ i. rw (get_or-drop at image i 0) (bytes (at + i)));
@@ -121,27 +121,27 @@ module _ (image : List ℕ) where
     module _ (T C N own : ℕ) where
       -- The operands of a kind, its tag having been read.
       abbrev Kind : ℕ → (ℕ → Reading Expr) → Type 0
-      Kind tag p = (u : List ℕ) (at : ℕ) → Upto u (tag ∷ []) at → All (One (Fits T C N own) encodeNode u) Stop (p at)
+      Kind tag p = (u : List ℕ) (at : ℕ) → Upto u (tag ∷ []) at → All (One (Fits T C N own) encode_node u) Stop (p at)
 
       done :
-          {S : Expr → Type 0} {u : List ℕ} (e : Expr) {at : ℕ} → S e → Front (u ++ encodeNode e) at
-          → All (One S encodeNode u) Stop (got e at)
+          {S : Expr → Type 0} {u : List ℕ} (e : Expr) {at : ℕ} → S e → Front (u ++ encode_node e) at
+          → All (One S encode_node u) Stop (got e at)
       done e s f = holds (record { fits = s; on = f })
 
       text :
           {u : List ℕ} (k : ℕ) (x : List ℕ) (at : ℕ) {before : ℕ} → Number 1 65 u (4 ∷ []) k before
-          → Raw k (u ++ numbers (4 ∷ k ∷ [])) x at → All (One (Fits T C N own) encodeNode u) Stop (got (Text x) at)
+          → Raw k (u ++ numbers (4 ∷ k ∷ [])) x at → All (One (Fits T C N own) encode_node u) Stop (got (Text x) at)
       text {u} k x at r s = done (Text x) (rw s.long r.least, rw s.long (up_to 64 r.under), s.small)
           (rw (s.long, ← (append_assoc u (numbers (4 ∷ k ∷ [])) x)) s.on)
 
-      kinds-all : EachFrom Kind 0 (kinds image T C N own)
-      kinds-all =
+      kinds_all : EachFrom Kind 0 (kinds image T C N own)
+      kinds_all =
           (λ u at f. done Empty tt f.here)
           & (λ u at f. operand 0 256 f ▹ λ b at r. done (Byte b) (up_to 255 r.under) r.on.here)
           & (λ u at f. operand 0 256 f ▹ λ lo at r. operand lo 256 r.on ▹ λ hi at s.
           done (Range lo hi) (s.least, up_to 255 s.under) s.on.here)
           & (λ u at f. done Any tt f.here)
-          & (λ u at f. operand 1 65 f ▹ λ k at r. raw-all k r.on.here ▹ λ x at s. text k x at r s)
+          & (λ u at f. operand 1 65 f ▹ λ k at r. raw_all k r.on.here ▹ λ x at s. text k x at r s)
           & (λ u at f. operand 0 own f ▹ λ a at r. operand 0 own r.on ▹ λ b at s. done (Sequence a b) (r.under, s.under)
           s.on.here)
           & (λ u at f. operand 0 own f ▹ λ a at r. operand 0 own r.on ▹ λ b at s. done (Choice a b) (r.under, s.under) s.on.here)
@@ -156,42 +156,42 @@ module _ (image : List ℕ) where
           & (λ u at f. operand 0 T f ▹ λ t at r. operand 0 own r.on ▹ λ a at s. done (Block t a) (r.under, s.under) s.on.here)
           & (λ u at f. operand 0 T f ▹ λ t at r. operand 0 own r.on ▹ λ a at s. done (Local t a) (r.under, s.under) s.on.here)
           & (λ u at f. operand 0 C f ▹ λ c at r. operand 0 2 r.on ▹ λ w at s.
-          done (If c (eqb w 1)) {at = at} r.under (rw (bit-back w s.under) s.on.here))
+          done (If c (eqb w 1)) {at = at} r.under (rw (bit_back w s.under) s.on.here))
           & (λ u at f. operand 0 C f ▹ λ c at r. operand 0 2 r.on ▹ λ w at s. operand 0 own s.on ▹ λ a at q.
-          done (On c (eqb w 1) a) {at = at} (r.under, q.under) (rw (bit-back w s.under) q.on.here))
+          done (On c (eqb w 1) a) {at = at} (r.under, q.under) (rw (bit_back w s.under) q.on.here))
           & nil
 
-      pub node-all : {u : List ℕ} {at : ℕ} → Front u at → All (One (Fits T C N own) encodeNode u) Stop (nodeAt image T C N own at)
-      node-all {u} {at} f =
-          number-all 6 0 19 (omega arith) (start f) ▹ λ tag at r. each_at Kind (fault 6) (kinds image T C N own) 0 tag kinds-all
-          r.under u at (rw (zero-plus tag) r.on)
+      pub node_all : {u : List ℕ} {at : ℕ} → Front u at → All (One (Fits T C N own) encode_node u) Stop (node_at image T C N own at)
+      node_all {u} {at} f =
+          number_all 6 0 19 (omega arith) (start f) ▹ λ tag at r. each_at Kind (fault 6) (kinds image T C N own) 0 tag kinds_all
+          r.under u at (rw (zero_plus tag) r.on)
 
-    pub pattern-all : (N i at : ℕ) (u : List ℕ) → Front u at → All (One (λ a. a < N) groups u) Stop (bounded image 7 0 N at)
-    pattern-all N i at u f =
+    pub pattern_all : (N i at : ℕ) (u : List ℕ) → Front u at → All (One (λ a. a < N) groups u) Stop (bounded image 7 0 N at)
+    pattern_all N i at u f =
         operand 0 N (start f) ▹' λ n at r. record { fits = r.under; on = rw (append-nil (groups n)) at r.on.here }
 
     -- The numbers that the image begins with, within their ranges.
     pub record HeadRead (h : Head) (next : ℕ) : Type 0 where
-      pub few-tables : h.tables ≤ 8
-      pub few-conditions : h.conditions ≤ 8
-      pub some-node : 1 ≤ h.nodes
-      pub few-nodes : h.nodes ≤ 512
-      pub start-named : h.start < h.nodes
+      pub few_tables : h.tables ≤ 8
+      pub few_conditions : h.conditions ≤ 8
+      pub some_node : 1 ≤ h.nodes
+      pub few_nodes : h.nodes ≤ 512
+      pub start_named : h.start < h.nodes
       pub on : Front (numbers (1 ∷ h.tables ∷ h.conditions ∷ h.nodes ∷ h.start ∷ [])) next
 
-    pub head-all : All HeadRead Stop (headAt image)
-    head-all =
-        number-all 4 1 2 {ns = []} (omega arith) origin ▹ λ edition at e.
-        number-all 5 0 9 (omega arith) e.on ▹ λ T at t.
-        number-all 5 0 9 (omega arith) t.on ▹ λ C at c.
-        number-all 5 1 513 (omega arith) c.on ▹ λ N at n.
+    pub head_all : All HeadRead Stop (head_at image)
+    head_all =
+        number_all 4 1 2 {ns = []} (omega arith) origin ▹ λ edition at e.
+        number_all 5 0 9 (omega arith) e.on ▹ λ T at t.
+        number_all 5 0 9 (omega arith) t.on ▹ λ C at c.
+        number_all 5 1 513 (omega arith) c.on ▹ λ N at n.
         operand 0 N n.on ▹ λ first at s.
         holds (record {
-          few-tables = up_to 8 t.under;
-          few-conditions = up_to 8 c.under;
-          some-node = n.least;
-          few-nodes = up_to 512 n.under;
-          start-named = s.under;
+          few_tables = up_to 8 t.under;
+          few_conditions = up_to 8 c.under;
+          some_node = n.least;
+          few_nodes = up_to 512 n.under;
+          start_named = s.under;
           on = rw (only e) at s.on.here;
         })
       where
@@ -206,22 +206,22 @@ module _ (image : List ℕ) where
       pub sound : Sound g
       pub on : Front (encode g) next
 
-    pub body-all : All Whole Stop (headAt image then body_at image)
-    body-all = head-all ▹ λ h at r.
-        times-all (λ i a. a < h.nodes) groups (λ i. bounded image 7 0 h.nodes) (pattern-all h.nodes) 0 h.tables _ at r.on
+    pub body_all : All Whole Stop (head_at image then body_at image)
+    body_all = head_all ▹ λ h at r.
+        times_all (λ i a. a < h.nodes) groups (λ i. bounded image 7 0 h.nodes) (pattern_all h.nodes) 0 h.tables _ at r.on
         ▹ λ ps at p.
-        times-all (Fits h.tables h.conditions h.nodes) encodeNode (nodeAt image h.tables h.conditions h.nodes)
-        (λ i at u f. node-all h.tables h.conditions h.nodes i f) 0 h.nodes _ at p.on ▹ λ es at q.
+        times_all (Fits h.tables h.conditions h.nodes) encode_node (node_at image h.tables h.conditions h.nodes)
+        (λ i at u f. node_all h.tables h.conditions h.nodes i f) 0 h.nodes _ at p.on ▹ λ es at q.
         holds (record {
           sound = record {
-            few-tables = rw p.count r.few-tables;
-            few-conditions = r.few-conditions;
-            some-node = rw q.count r.some-node;
-            few-nodes = rw q.count r.few-nodes;
-            start-named = rw q.count r.start-named;
-            patterns-named = λ t l. rw q.count (each_at (λ i a. a < h.nodes) 0 ps 0 t p.fits l);
-            operands-fit = λ n l. subst₂ (λ T N. Fits T h.conditions N n (get_or es n Empty)) (sym p.count) (sym q.count)
-                (rw (zero-plus n) at (each_at (Fits h.tables h.conditions h.nodes) Empty es 0 n q.fits l));
+            few_tables = rw p.count r.few_tables;
+            few_conditions = r.few_conditions;
+            some_node = rw q.count r.some_node;
+            few_nodes = rw q.count r.few_nodes;
+            start_named = rw q.count r.start_named;
+            patterns_named = λ t l. rw q.count (each_at (λ i a. a < h.nodes) 0 ps 0 t p.fits l);
+            operands_fit = λ n l. subst₂ (λ T N. Fits T h.conditions N n (get_or es n Empty)) (sym p.count) (sym q.count)
+                (rw (zero_plus n) at (each_at (Fits h.tables h.conditions h.nodes) Empty es 0 n q.fits l));
           };
           on = rw (p.count, q.count) q.on;
         })

@@ -27,26 +27,26 @@ pub pick_all :
 pick_all true f g = f refl
 pick_all false f g = g refl
 
-pub of-got : {A : Type 0} {P : A → ℕ → Type 0} {Q : ℕ → ℕ → Type 0} {x : A} {next : ℕ} → All P Q (got x next) → P x next
-of-got (holds h) = h
+pub of_got : {A : Type 0} {P : A → ℕ → Type 0} {Q : ℕ → ℕ → Type 0} {x : A} {next : ℕ} → All P Q (got x next) → P x next
+of_got (holds h) = h
 
-pub of-fault : {A : Type 0} {P : A → ℕ → Type 0} {Q : ℕ → ℕ → Type 0} {n place : ℕ} → All P Q (fault n place) → Q n place
-of-fault (stops h) = h
+pub of_fault : {A : Type 0} {P : A → ℕ → Type 0} {Q : ℕ → ℕ → Type 0} {n place : ℕ} → All P Q (fault n place) → Q n place
+of_fault (stops h) = h
 
 -- Equal readings, taken on, stay equal.
 pub onward : {A B : Type 0} (k : A → ℕ → Reading B) {r s : Reading A} → r ≡ s → (r then k) ≡ (s then k)
 onward k e = ap (λ r. r then k) e
 
 -- Reading on after two readings is reading on after the second, after the first.
-pub then-assoc :
+pub then_assoc :
     {A B C : Type 0} (r : Reading A) (f : A → ℕ → Reading B) (k : B → ℕ → Reading C)
     → ((r then f) then k) ≡ (r then λ x at. f x at then k)
-then-assoc (got x at) f k = refl
-then-assoc (fault n place) f k = refl
+then_assoc (got x at) f k = refl
+then_assoc (fault n place) f k = refl
 
 -- Two ways of reading on that agree on every value and place that can be read are one.
-pub then-ext :
+pub then_ext :
     {A B : Type 0} {P : A → ℕ → Type 0} {Q : ℕ → ℕ → Type 0} {r : Reading A} (f g : A → ℕ → Reading B) → All P Q r
     → ((x : A) (at : ℕ) → P x at → f x at ≡ g x at) → (r then f) ≡ (r then g)
-then-ext f g (holds {x = x} {next = at} h) same = same x at h
-then-ext f g (stops h) same = refl
+then_ext f g (holds {x = x} {next = at} h) same = same x at h
+then_ext f g (stops h) same = refl

@@ -6,13 +6,13 @@ use Rattle.std.proofs.lemmas.Bool.{eqb-false}
 use Rattle.grammar.specs.Grammar.{Grammar}
 use Rattle.grammar.specs.Sound.{Bytes, Sound}
 use Rattle.format.specs.Reading.{Reading, got, fault, pick, ◌then◌}
-use Rattle.format.specs.ReadingLaws.{All, holds, stops, of-got}
-use Rattle.format.specs.Number.{groups, numberAt}
-use Rattle.format.specs.NumberLaws.{Refusal, first-all, first_back}
+use Rattle.format.specs.ReadingLaws.{All, holds, stops, of_got}
+use Rattle.format.specs.Number.{groups, number_at}
+use Rattle.format.specs.NumberLaws.{Refusal, first_all, first_back}
 use Rattle.format.specs.Written.{encode}
-use Rattle.format.specs.Image.{headAt, body_at, Checked, good, refused, ended, readImage}
-use Rattle.format.specs.ImageLaws.{zero-plus}
-use Rattle.format.specs.OnlyWritten.{Front, front-on, Whole, body-all}
+use Rattle.format.specs.Image.{head_at, body_at, Checked, good, refused, ended, read_image}
+use Rattle.format.specs.ImageLaws.{zero_plus}
+use Rattle.format.specs.OnlyWritten.{Front, front_on, Whole, body_all}
 use Rattle.format.specs.ReadBack.{Back, body_back}
 
 -- An image is this grammar's: the grammar is sound, its writing is the image, and the image is at most 16,384 bytes.
@@ -41,10 +41,10 @@ pub data Said (image : List ℕ) : Checked → Type 0 where
   refuses : {n place : ℕ} → Refuses image n place → Said image (refused n place)
 
 module _ (image : List ℕ) (bytes : Bytes image) where
-  at-end :
+  at_end :
       (short : length image ≤ 16384) {g : Grammar} {at : ℕ} → Whole image bytes g at → (t : Bool) → ltb at (length image) ≡ t
       → Said image (pick t (refused 8 at) (good g))
-  at-end short {g} {at} w true e =
+  at_end short {g} {at} w true e =
       let some : at < length image = ltb-true at (length image) e in
       refuses {n = 8} {place = at} (record {
         least = omega arith;
@@ -57,7 +57,7 @@ module _ (image : List ℕ) (bytes : Bytes image) where
         left_over = λ z. (g, w.sound, sym w.on.front);
         small = omega arith;
       })
-  at-end short {g} {at} w false e = stands (record {
+  at_end short {g} {at} w false e = stands (record {
     sound = w.sound;
     writing = sym w.on.front ∙ take_all at image (ltb-false at (length image) e);
     short = short;
@@ -94,51 +94,51 @@ module _ (image : List ℕ) (bytes : Bytes image) where
     small = omega arith;
   }
 
-  pub said : Said image (readImage image)
+  pub said : Said image (read_image image)
   said = whole (ltb 16384 (length image)) refl
     where
       go :
           length image ≤ 16384 → {r : Reading Grammar} → All (Whole image bytes) (Refusal (length image)) r
           → Said image (ended image r)
-      go short (holds {x = g} {next = at} w) = at-end short w (ltb at (length image)) refl
+      go short (holds {x = g} {next = at} w) = at_end short w (ltb at (length image)) refl
       go short (stops h) = refuses (earlier short h)
 
       whole :
           (t : Bool) → ltb 16384 (length image) ≡ t
-          → Said image (pick t (refused 1 0) (ended image (headAt image then body_at image)))
+          → Said image (pick t (refused 1 0) (ended image (head_at image then body_at image)))
       whole true e = refuses (too_long (ltb-true 16384 (length image) e))
-      whole false e = go (ltb-false 16384 (length image) e) (body-all image bytes)
+      whole false e = go (ltb-false 16384 (length image) e) (body_all image bytes)
 
-of-good : {image : List ℕ} {g : Grammar} → Said image (good g) → Stands image g
-of-good (stands h) = h
+of_good : {image : List ℕ} {g : Grammar} → Said image (good g) → Stands image g
+of_good (stands h) = h
 
-of-refused : {image : List ℕ} {n place : ℕ} → Said image (refused n place) → Refuses image n place
-of-refused (refuses h) = h
+of_refused : {image : List ℕ} {n place : ℕ} → Said image (refused n place) → Refuses image n place
+of_refused (refuses h) = h
 
-read_back : (image : List ℕ) (g : Grammar) → Stands image g → readImage image ≡ good g
+read_back : (image : List ℕ) (g : Grammar) → Stands image g → read_image image ≡ good g
 read_back image g s =
     let b = body_back image g s.sound s.writing in
     rw (le-ltb 16384 (length image) s.short, b.is)
     (rw (le-ltb b.next (length image) (omega (arith, simp length-drop at (ap length b.after)))))
 
--- THE ROUND TRIP. `readImage` says good with g exactly if g is sound, `encode g` is the image, and it is at most 16,384 bytes.
-pub exact : (image : List ℕ) → Bytes image → (g : Grammar) → (readImage image ≡ good g) ↔ Stands image g
-exact image bytes g = ((λ e. of-good (rw e at (said image bytes))), read_back image g)
+-- THE ROUND TRIP. `read_image` says good with g exactly if g is sound, `encode g` is the image, and it is at most 16,384 bytes.
+pub exact : (image : List ℕ) → Bytes image → (g : Grammar) → (read_image image ≡ good g) ↔ Stands image g
+exact image bytes g = ((λ e. of_good (rw e at (said image bytes))), read_back image g)
 
-pub refusal : (image : List ℕ) → Bytes image → (n place : ℕ) → readImage image ≡ refused n place → Refuses image n place
-refusal image bytes n place e = of-refused (rw e at (said image bytes))
+pub refusal : (image : List ℕ) → Bytes image → (n place : ℕ) → read_image image ≡ refused n place → Refuses image n place
+refusal image bytes n place e = of_refused (rw e at (said image bytes))
 
 -- ## The numbers by themselves
 
 -- What is written is read back.
-pub number_read : (n : ℕ) (t : List ℕ) → n < 2097152 → numberAt (groups n ++ t) 0 ≡ got n (length (groups n))
-number_read n t h = first_back (length (groups n ++ t)) 0 n t h ∙ ap (λ k. got n k) (zero-plus (length (groups n)))
+pub number_read : (n : ℕ) (t : List ℕ) → n < 2097152 → number_at (groups n ++ t) 0 ≡ got n (length (groups n))
+number_read n t h = first_back (length (groups n ++ t)) 0 n t h ∙ ap (λ k. got n k) (zero_plus (length (groups n)))
 
 -- What was read is how that number is written, and no other way.
-pub number-written :
-    (b : List ℕ) (at n next : ℕ) → Bytes b → at ≤ length b → numberAt b at ≡ got n next
+pub number_written :
+    (b : List ℕ) (at n next : ℕ) → Bytes b → at ≤ length b → number_at b at ≡ got n next
     → (take next b ≡ take at b ++ groups n) × (n < 2097152)
-number-written b at n next bytes l e =
-    let w = of-got (rw e at
-    (first-all (length b) at (drop at b) (rw (length-drop at b) (omega (arith, l))) (λ i. rw (get_or-drop at b i 0) (bytes (at + i))))) in
-    (rw w.place (front-on b (groups n) w.rest (record { front = refl; within = l }) w.split).front, w.small)
+number_written b at n next bytes l e =
+    let w = of_got (rw e at
+    (first_all (length b) at (drop at b) (rw (length-drop at b) (omega (arith, l))) (λ i. rw (get_or-drop at b i 0) (bytes (at + i))))) in
+    (rw w.place (front_on b (groups n) w.rest (record { front = refl; within = l }) w.split).front, w.small)

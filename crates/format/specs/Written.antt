@@ -17,30 +17,30 @@ bit true = 1
 bit false = 0
 
 -- A node: its tag and then its operands, by the table of kinds.
-abbrev pub encodeNode : Expr → List ℕ
-encodeNode Empty = numbers (0 ∷ [])
-encodeNode (Byte b) = numbers (1 ∷ b ∷ [])
-encodeNode (Range lo hi) = numbers (2 ∷ lo ∷ hi ∷ [])
-encodeNode Any = numbers (3 ∷ [])
-encodeNode (Text bytes) = numbers (4 ∷ length bytes ∷ []) ++ bytes
-encodeNode (Sequence a b) = numbers (5 ∷ a ∷ b ∷ [])
-encodeNode (Choice a b) = numbers (6 ∷ a ∷ b ∷ [])
-encodeNode (Star a) = numbers (7 ∷ a ∷ [])
-encodeNode (Not a) = numbers (8 ∷ a ∷ [])
-encodeNode (Call a) = numbers (9 ∷ a ∷ [])
-encodeNode (Def t) = numbers (10 ∷ t ∷ [])
-encodeNode (Match t) = numbers (11 ∷ t ∷ [])
-encodeNode (Is t) = numbers (12 ∷ t ∷ [])
-encodeNode (Isa t) = numbers (13 ∷ t ∷ [])
-encodeNode (Exists t) = numbers (14 ∷ t ∷ [])
-encodeNode (Block t a) = numbers (15 ∷ t ∷ a ∷ [])
-encodeNode (Local t a) = numbers (16 ∷ t ∷ a ∷ [])
-encodeNode (If c truth) = numbers (17 ∷ c ∷ bit truth ∷ [])
-encodeNode (On c truth a) = numbers (18 ∷ c ∷ bit truth ∷ a ∷ [])
+abbrev pub encode_node : Expr → List ℕ
+encode_node Empty = numbers (0 ∷ [])
+encode_node (Byte b) = numbers (1 ∷ b ∷ [])
+encode_node (Range lo hi) = numbers (2 ∷ lo ∷ hi ∷ [])
+encode_node Any = numbers (3 ∷ [])
+encode_node (Text bytes) = numbers (4 ∷ length bytes ∷ []) ++ bytes
+encode_node (Sequence a b) = numbers (5 ∷ a ∷ b ∷ [])
+encode_node (Choice a b) = numbers (6 ∷ a ∷ b ∷ [])
+encode_node (Star a) = numbers (7 ∷ a ∷ [])
+encode_node (Not a) = numbers (8 ∷ a ∷ [])
+encode_node (Call a) = numbers (9 ∷ a ∷ [])
+encode_node (Def t) = numbers (10 ∷ t ∷ [])
+encode_node (Match t) = numbers (11 ∷ t ∷ [])
+encode_node (Is t) = numbers (12 ∷ t ∷ [])
+encode_node (Isa t) = numbers (13 ∷ t ∷ [])
+encode_node (Exists t) = numbers (14 ∷ t ∷ [])
+encode_node (Block t a) = numbers (15 ∷ t ∷ a ∷ [])
+encode_node (Local t a) = numbers (16 ∷ t ∷ a ∷ [])
+encode_node (If c truth) = numbers (17 ∷ c ∷ bit truth ∷ [])
+encode_node (On c truth a) = numbers (18 ∷ c ∷ bit truth ∷ a ∷ [])
 
 -- In order: edition, tables, conditions, nodes, start node; for each table the node of its pattern; then the nodes.
 abbrev pub heading : Grammar → List ℕ
 heading g = 1 ∷ tables g ∷ g.conditions ∷ size g ∷ g.start ∷ []
 
 abbrev pub encode : Grammar → List ℕ
-encode g = (numbers (heading g) ++ numbers g.patterns) ++ written encodeNode g.nodes
+encode g = (numbers (heading g) ++ numbers g.patterns) ++ written encode_node g.nodes

@@ -32,10 +32,10 @@ module _ (T C N own : ℕ) where
   Fits (On c truth a) = (c < C) × (a < own)
 
 pub record Sound (g : Grammar) : Type 0 where
-  pub few-tables : tables g ≤ 8
-  pub few-conditions : g.conditions ≤ 8
-  pub some-node : 1 ≤ size g
-  pub few-nodes : size g ≤ 512
-  pub start-named : g.start < size g
-  pub patterns-named : (t : ℕ) → t < tables g → pattern g t < size g
-  pub operands-fit : (n : ℕ) → n < size g → Fits (tables g) g.conditions (size g) n (node g n)
+  pub few_tables : tables g ≤ 8
+  pub few_conditions : g.conditions ≤ 8
+  pub some_node : 1 ≤ size g
+  pub few_nodes : size g ≤ 512
+  pub start_named : g.start < size g
+  pub patterns_named : (t : ℕ) → t < tables g → pattern g t < size g
+  pub operands_fit : (n : ℕ) → n < size g → Fits (tables g) g.conditions (size g) n (node g n)

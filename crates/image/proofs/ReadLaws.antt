@@ -12,9 +12,9 @@ use Rattle.reader.specs.declared.number.Read.{Read}
 use Rattle.reader.specs.declared.number.Read.TheVariants.{Got, Refused}
 use Rattle.format.specs.Reading.{Reading, got, fault, pick, ◌then◌}
 use Rattle.format.specs.ReadingLaws.{onward}
-use Rattle.format.specs.Number.{numberAt}
+use Rattle.format.specs.Number.{number_at}
 use Rattle.format.specs.Image.{inside, bounded}
-use Rattle.format.specs.ImageLaws.{number-below}
+use Rattle.format.specs.ImageLaws.{number_below}
 use Rattle.reader.specs.Meant.{reading}
 
 -- What was refused is refused, whatever would follow.
@@ -39,17 +39,17 @@ module _ (at low stop why : ℕ) where
   abbrev pub judged : ℕ → ℕ → Reading ℕ
   judged n next = pick (inside low stop n) (got n next) (fault why at)
 
-  pub too-low : (n next : ℕ) → n < low → fault why at ≡ judged n next
-  too-low n next h = rw (lt-leb low n h)
+  pub too_low : (n next : ℕ) → n < low → fault why at ≡ judged n next
+  too_low n next h = rw (lt-leb low n h)
 
   pub fits : (n next : ℕ) → low ≤ n → n < stop → got n next ≡ judged n next
   fits n next h h' = rw (le-leb low n h, lt-ltb n stop h')
 
-  pub too-high : (n next : ℕ) → low ≤ n → stop ≤ n → fault why at ≡ judged n next
-  too-high n next h h' = rw (le-leb low n h, le-ltb n stop h')
+  pub too_high : (n next : ℕ) → low ≤ n → stop ≤ n → fault why at ≡ judged n next
+  too_high n next h h' = rw (le-leb low n h, le-ltb n stop h')
 
 -- A number that was got is below what it must be below.
 pub under :
     (image : List ℕ) (why low stop at : ℕ) {r : Read} {n : Number} → reading r ≡ bounded image why low stop at → r ≡ Got n
     → n.value < stop
-under image why low stop at e g = number-below image why low stop at (sym (ap reading g) ∙ e)
+under image why low stop at e g = number_below image why low stop at (sym (ap reading g) ∙ e)

@@ -15,30 +15,30 @@ use Rattle.reader.specs.declared.number.Number.{Number}
 use Rattle.reader.specs.declared.number.Read.{Read}
 use Rattle.reader.specs.declared.number.Read.TheVariants.{Got}
 use Rattle.format.specs.Reading.{Reading, got, fault, pick, ◌then◌}
-use Rattle.format.specs.ReadingLaws.{All, holds, stops, ◌▹◌, of-got, then-assoc, then-ext}
+use Rattle.format.specs.ReadingLaws.{All, holds, stops, ◌▹◌, of_got, then_assoc, then_ext}
 use Rattle.format.specs.Written.{bit}
-use Rattle.format.specs.Image.{bounded, raw, kinds, nodeAt}
-use Rattle.format.specs.ImageLaws.{number-all, bit-back}
+use Rattle.format.specs.Image.{bounded, raw, kinds, node_at}
+use Rattle.format.specs.ImageLaws.{number_all, bit_back}
 use Rattle.image.specs.Word.{packed, switch, kept, keep, word_at}
-use Rattle.image.specs.Shapes.{word1, word2, switched, last_at, highAt, bytes_at, truth_of, one_at, twoAt, rangeAt, textAt, switchAt, ifAt, onAt}
+use Rattle.image.specs.Shapes.{word1, word2, switched, last_at, high_at, bytes_at, truth_of, one_at, two_at, range_at, text_at, switch_at, if_at, on_at}
 use Rattle.reader.specs.Meant.{reading}
 
 module _ (image : List ℕ) where
   pub bytes_cut : (k at : ℕ) → length image < at + k → fault 2 (length image) ≡ bytes_at image k at
   bytes_cut k at h = rw (lt-leb (at + k) (length image) h)
 
-  pub bytes-there : (k at : ℕ) → at + k ≤ length image → got (packed 4 at k) (at + k) ≡ bytes_at image k at
-  bytes-there k at h = rw (le-leb (at + k) (length image) h)
+  pub bytes_there : (k at : ℕ) → at + k ≤ length image → got (packed 4 at k) (at + k) ≡ bytes_at image k at
+  bytes_there k at h = rw (le-leb (at + k) (length image) h)
 
   -- A condition and its truth, as one number, are below twice the conditions.
-  switch-all : (C at : ℕ) → All (λ n next. n < C * 2) (λ n place. Unit {0}) (switchAt image C at)
-  switch-all C at = number-all image 7 0 C at ▹ λ c at hc. number-all image 7 0 2 at ▹ λ w at hw. holds (both c w hc hw)
+  switch_all : (C at : ℕ) → All (λ n next. n < C * 2) (λ n place. Unit {0}) (switch_at image C at)
+  switch_all C at = number_all image 7 0 C at ▹ λ c at hc. number_all image 7 0 2 at ▹ λ w at hw. holds (both c w hc hw)
     where
       both : (c w : ℕ) → c < C → w < 2 → switch c w < C * 2
       both c w hc hw = omega arith
 
-  pub switch-below : (C at : ℕ) {r : Read} {n : Number} → reading r ≡ switchAt image C at → r ≡ Got n → n.value < C * 2
-  switch-below C at e g = of-got (rw (← (sym (ap reading g) ∙ e)) at (switch-all C at))
+  pub switch_below : (C at : ℕ) {r : Read} {n : Number} → reading r ≡ switch_at image C at → r ≡ Got n → n.value < C * 2
+  switch_below C at e g = of_got (rw (← (sym (ap reading g) ∙ e)) at (switch_all C at))
 
 -- ## Which kind has which shape
 
@@ -54,71 +54,71 @@ between P lo (suc k) n e l h =
 
 -- Keeping what was read at the end is keeping each part as it is read.
 one_kept : (x : Reading ℕ) (e : ℕ → Expr) → (x then λ a at. keep (e a) at) ≡ ((x then λ a at. got (e a) at) then keep)
-one_kept x e = sym (then-assoc x (λ a at. got (e a) at) keep)
+one_kept x e = sym (then_assoc x (λ a at. got (e a) at) keep)
 
-two-kept : (image : List ℕ) (why low stop at : ℕ) (y : ℕ → ℕ → Reading ℕ) (e : ℕ → ℕ → Expr)
+two_kept : (image : List ℕ) (why low stop at : ℕ) (y : ℕ → ℕ → Reading ℕ) (e : ℕ → ℕ → Expr)
     → (bounded image why low stop at then λ a at. y a at then λ b at. keep (e a b) at)
     ≡ ((bounded image why low stop at then λ a at. y a at then λ b at. got (e a b) at) then keep)
-two-kept image why low stop at y e =
-    then-ext (λ a at. y a at then λ b at. keep (e a b) at) (λ a at. (y a at then λ b at. got (e a b) at) then keep)
-    (number-all image why low stop at) (λ a at h. one_kept (y a at) (e a))
-    ∙ sym (then-assoc (bounded image why low stop at) (λ a at. y a at then λ b at. got (e a b) at) keep)
+two_kept image why low stop at y e =
+    then_ext (λ a at. y a at then λ b at. keep (e a b) at) (λ a at. (y a at then λ b at. got (e a b) at) then keep)
+    (number_all image why low stop at) (λ a at h. one_kept (y a at) (e a))
+    ∙ sym (then_assoc (bounded image why low stop at) (λ a at. y a at then λ b at. got (e a b) at) keep)
 
 module _ (image : List ℕ) (T C N own : ℕ) where
   -- The operands after a tag, as a word.
-  abbrev pub operandsAt : (tag at : ℕ) → Reading ℕ
-  operandsAt tag at = get_or (kinds image T C N own) tag (fault 6) at then keep
+  abbrev pub operands_at : (tag at : ℕ) → Reading ℕ
+  operands_at tag at = get_or (kinds image T C N own) tag (fault 6) at then keep
 
-  pub word_of : (at : ℕ) → (bounded image 6 0 19 at then operandsAt) ≡ word_at image T C N own at
-  word_of at = sym (then-assoc (bounded image 6 0 19 at) (λ tag at. get_or (kinds image T C N own) tag (fault 6) at) keep)
+  pub word_of : (at : ℕ) → (bounded image 6 0 19 at then operands_at) ≡ word_at image T C N own at
+  word_of at = sym (then_assoc (bounded image 6 0 19 at) (λ tag at. get_or (kinds image T C N own) tag (fault 6) at) keep)
 
   -- Empty; Byte; Range; Any; Text.
-  pub empty-word : (tag at : ℕ) → tag < 1 → got (packed tag 0 0) at ≡ operandsAt tag at
-  empty-word tag at h = between (λ n. got (packed n 0 0) at ≡ operandsAt n at) 0 1 tag (refl, tt) (omega arith) h
+  pub empty_word : (tag at : ℕ) → tag < 1 → got (packed tag 0 0) at ≡ operands_at tag at
+  empty_word tag at h = between (λ n. got (packed n 0 0) at ≡ operands_at n at) 0 1 tag (refl, tt) (omega arith) h
 
-  pub byte_word : (tag at : ℕ) → 1 ≤ tag → tag < 2 → one_at image tag 256 at ≡ operandsAt tag at
-  byte_word tag at = between (λ n. one_at image n 256 at ≡ operandsAt n at) 1 1 tag (one_kept (bounded image 7 0 256 at) Byte, tt)
+  pub byte_word : (tag at : ℕ) → 1 ≤ tag → tag < 2 → one_at image tag 256 at ≡ operands_at tag at
+  byte_word tag at = between (λ n. one_at image n 256 at ≡ operands_at n at) 1 1 tag (one_kept (bounded image 7 0 256 at) Byte, tt)
 
-  pub range-word : (tag at : ℕ) → 2 ≤ tag → tag < 3 → rangeAt image at ≡ operandsAt tag at
-  range-word tag at =
-      between (λ n. rangeAt image at ≡ operandsAt n at) 2 1 tag (two-kept image 7 0 256 at (λ lo. bounded image 7 lo 256) Range, tt)
+  pub range_word : (tag at : ℕ) → 2 ≤ tag → tag < 3 → range_at image at ≡ operands_at tag at
+  range_word tag at =
+      between (λ n. range_at image at ≡ operands_at n at) 2 1 tag (two_kept image 7 0 256 at (λ lo. bounded image 7 lo 256) Range, tt)
 
-  pub any_word : (tag at : ℕ) → 3 ≤ tag → tag < 4 → got (packed tag 0 0) at ≡ operandsAt tag at
-  any_word tag at = between (λ n. got (packed n 0 0) at ≡ operandsAt n at) 3 1 tag (refl, tt)
+  pub any_word : (tag at : ℕ) → 3 ≤ tag → tag < 4 → got (packed tag 0 0) at ≡ operands_at tag at
+  any_word tag at = between (λ n. got (packed n 0 0) at ≡ operands_at n at) 3 1 tag (refl, tt)
 
-  text-kept : (k at : ℕ) (t : Bool) → leb (at + k) (length image) ≡ t
+  text_kept : (k at : ℕ) (t : Bool) → leb (at + k) (length image) ≡ t
       → pick t (got (packed 4 at k) (at + k)) (fault 2 (length image))
       ≡ ((pick t (got (take k (drop at image)) (at + k)) (fault 2 (length image)) then λ bytes at. got (Text bytes) at) then keep)
-  text-kept k at true e =
+  text_kept k at true e =
       let long : length (take k (drop at image))
       ≡ k = length-take-le k (drop at image) (rw (length-drop at image) (omega (arith, leb-true (at + k) (length image) e))) in
       let back : at + k - k ≡ at = omega arith in
       rw (long, back)
-  text-kept k at false e = refl
+  text_kept k at false e = refl
 
-  pub text-word : (tag at : ℕ) → 4 ≤ tag → tag < 5 → textAt image at ≡ operandsAt tag at
-  text-word tag at = between (λ n. textAt image at ≡ operandsAt n at) 4 1 tag (
-    then-ext (bytes_at image) (λ k at. (raw image k at then λ bytes at. got (Text bytes) at) then keep) (number-all image 7 1 65 at)
-        (λ k at h. text-kept k at (leb (at + k) (length image)) refl)
-        ∙ sym (then-assoc (bounded image 7 1 65 at) (λ k at. raw image k at then λ bytes at. got (Text bytes) at) keep),
+  pub text_word : (tag at : ℕ) → 4 ≤ tag → tag < 5 → text_at image at ≡ operands_at tag at
+  text_word tag at = between (λ n. text_at image at ≡ operands_at n at) 4 1 tag (
+    then_ext (bytes_at image) (λ k at. (raw image k at then λ bytes at. got (Text bytes) at) then keep) (number_all image 7 1 65 at)
+        (λ k at h. text_kept k at (leb (at + k) (length image)) refl)
+        ∙ sym (then_assoc (bounded image 7 1 65 at) (λ k at. raw image k at then λ bytes at. got (Text bytes) at) keep),
     tt,
   )
 
   -- Sequence, Choice; Star, Not; Call.
-  pub pair-word : (tag at : ℕ) → 5 ≤ tag → tag < 7 → twoAt image tag own own at ≡ operandsAt tag at
-  pair-word tag at = between (λ n. twoAt image n own own at ≡ operandsAt n at) 5 2 tag
-      (two-kept image 7 0 own at (λ a. bounded image 7 0 own) Sequence, (two-kept image 7 0 own at (λ a. bounded image 7 0 own) Choice, tt))
+  pub pair_word : (tag at : ℕ) → 5 ≤ tag → tag < 7 → two_at image tag own own at ≡ operands_at tag at
+  pair_word tag at = between (λ n. two_at image n own own at ≡ operands_at n at) 5 2 tag
+      (two_kept image 7 0 own at (λ a. bounded image 7 0 own) Sequence, (two_kept image 7 0 own at (λ a. bounded image 7 0 own) Choice, tt))
 
-  pub child-word : (tag at : ℕ) → 7 ≤ tag → tag < 9 → one_at image tag own at ≡ operandsAt tag at
-  child-word tag at = between (λ n. one_at image n own at ≡ operandsAt n at) 7 2 tag
+  pub child_word : (tag at : ℕ) → 7 ≤ tag → tag < 9 → one_at image tag own at ≡ operands_at tag at
+  child_word tag at = between (λ n. one_at image n own at ≡ operands_at n at) 7 2 tag
       (one_kept (bounded image 7 0 own at) Star, (one_kept (bounded image 7 0 own at) Not, tt))
 
-  pub call-word : (tag at : ℕ) → 9 ≤ tag → tag < 10 → one_at image tag N at ≡ operandsAt tag at
-  call-word tag at = between (λ n. one_at image n N at ≡ operandsAt n at) 9 1 tag (one_kept (bounded image 7 0 N at) Call, tt)
+  pub call_word : (tag at : ℕ) → 9 ≤ tag → tag < 10 → one_at image tag N at ≡ operands_at tag at
+  call_word tag at = between (λ n. one_at image n N at ≡ operands_at n at) 9 1 tag (one_kept (bounded image 7 0 N at) Call, tt)
 
   -- Def, Match, Is, Isa, Exists; Block, Local.
-  pub table-word : (tag at : ℕ) → 10 ≤ tag → tag < 15 → one_at image tag T at ≡ operandsAt tag at
-  table-word tag at = between (λ n. one_at image n T at ≡ operandsAt n at) 10 5 tag
+  pub table_word : (tag at : ℕ) → 10 ≤ tag → tag < 15 → one_at image tag T at ≡ operands_at tag at
+  table_word tag at = between (λ n. one_at image n T at ≡ operands_at n at) 10 5 tag
       (of Def, (of Match, (of Is, (of Isa, (of Exists, tt)))))
     where
       of :
@@ -126,30 +126,30 @@ module _ (image : List ℕ) (T C N own : ℕ) where
           ≡ ((bounded image 7 0 T at then λ a at. got (e a) at) then keep)
       of = one_kept (bounded image 7 0 T at)
 
-  pub scope-word : (tag at : ℕ) → 15 ≤ tag → tag < 17 → twoAt image tag T own at ≡ operandsAt tag at
-  scope-word tag at = between (λ n. twoAt image n T own at ≡ operandsAt n at) 15 2 tag
-      (two-kept image 7 0 T at (λ t. bounded image 7 0 own) Block, (two-kept image 7 0 T at (λ t. bounded image 7 0 own) Local, tt))
+  pub scope_word : (tag at : ℕ) → 15 ≤ tag → tag < 17 → two_at image tag T own at ≡ operands_at tag at
+  scope_word tag at = between (λ n. two_at image n T own at ≡ operands_at n at) 15 2 tag
+      (two_kept image 7 0 T at (λ t. bounded image 7 0 own) Block, (two_kept image 7 0 T at (λ t. bounded image 7 0 own) Local, tt))
 
   -- If; On. A truth that was read is the bit of the Bool that it stands for.
-  switch-then : (at : ℕ) (k : ℕ → ℕ → Reading ℕ) (e : ℕ → ℕ → ℕ → Reading Expr)
+  switch_then : (at : ℕ) (k : ℕ → ℕ → Reading ℕ) (e : ℕ → ℕ → ℕ → Reading Expr)
       → ((c w at : ℕ) → w < 2 → k (switch c w) at ≡ (e c w at then keep))
-      → (switchAt image C at then k) ≡ ((bounded image 7 0 C at then λ c at. bounded image 7 0 2 at then e c) then keep)
-  switch-then at k e same =
-      then-assoc (bounded image 7 0 C at) (truth_of image) k
-      ∙ then-ext (λ c at. truth_of image c at then k) (λ c at. (bounded image 7 0 2 at then e c) then keep) (number-all image 7 0 C at)
-      (λ c at h. then-assoc (bounded image 7 0 2 at) (switched c) k
-      ∙ then-ext (λ w at. k (switch c w) at) (λ w at. e c w at then keep) (number-all image 7 0 2 at) (λ w at l. same c w at l)
-      ∙ sym (then-assoc (bounded image 7 0 2 at) (e c) keep))
-      ∙ sym (then-assoc (bounded image 7 0 C at) (λ c at. bounded image 7 0 2 at then e c) keep)
+      → (switch_at image C at then k) ≡ ((bounded image 7 0 C at then λ c at. bounded image 7 0 2 at then e c) then keep)
+  switch_then at k e same =
+      then_assoc (bounded image 7 0 C at) (truth_of image) k
+      ∙ then_ext (λ c at. truth_of image c at then k) (λ c at. (bounded image 7 0 2 at then e c) then keep) (number_all image 7 0 C at)
+      (λ c at h. then_assoc (bounded image 7 0 2 at) (switched c) k
+      ∙ then_ext (λ w at. k (switch c w) at) (λ w at. e c w at then keep) (number_all image 7 0 2 at) (λ w at l. same c w at l)
+      ∙ sym (then_assoc (bounded image 7 0 2 at) (e c) keep))
+      ∙ sym (then_assoc (bounded image 7 0 C at) (λ c at. bounded image 7 0 2 at then e c) keep)
 
-  pub if_word : (tag at : ℕ) → 17 ≤ tag → tag < 18 → ifAt image C at ≡ operandsAt tag at
-  if_word tag at = between (λ n. ifAt image C at ≡ operandsAt n at) 17 1 tag
-      (switch-then at (word1 17) (λ c w at. got (If c (eqb w 1)) at) (λ c w at l. rw (bit-back w l)), tt)
+  pub if_word : (tag at : ℕ) → 17 ≤ tag → tag < 18 → if_at image C at ≡ operands_at tag at
+  if_word tag at = between (λ n. if_at image C at ≡ operands_at n at) 17 1 tag
+      (switch_then at (word1 17) (λ c w at. got (If c (eqb w 1)) at) (λ c w at l. rw (bit_back w l)), tt)
 
-  pub on_word : (tag at : ℕ) → 18 ≤ tag → tag < 19 → onAt image C own at ≡ operandsAt tag at
-  on_word tag at = between (λ n. onAt image C own at ≡ operandsAt n at) 18 1 tag (
-    switch-then at (last_at image 18 own) (λ c w at. bounded image 7 0 own at then λ a at. got (On c (eqb w 1) a) at)
-        (λ c w at l. ap (λ b. bounded image 7 0 own at then λ a at. got (packed 18 (switch c b) a) at) (sym (bit-back w l))
+  pub on_word : (tag at : ℕ) → 18 ≤ tag → tag < 19 → on_at image C own at ≡ operands_at tag at
+  on_word tag at = between (λ n. on_at image C own at ≡ operands_at n at) 18 1 tag (
+    switch_then at (last_at image 18 own) (λ c w at. bounded image 7 0 own at then λ a at. got (On c (eqb w 1) a) at)
+        (λ c w at l. ap (λ b. bounded image 7 0 own at then λ a at. got (packed 18 (switch c b) a) at) (sym (bit_back w l))
         ∙ one_kept (bounded image 7 0 own at) (λ a. On c (eqb w 1) a)),
     tt,
   )

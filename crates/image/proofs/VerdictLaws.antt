@@ -10,22 +10,22 @@ use Rattle.reader.specs.declared.number.Refusal.{Refusal}
 use Rattle.image.specs.declared.walk.Loaded.{Loaded}
 use Rattle.image.specs.declared.walk.Loaded.TheVariants.{Good, Refused}
 use Rattle.image.specs.declared.walk.Verdict.{Verdict}
-use Rattle.format.specs.Image.{Checked, good, refused, readImage}
+use Rattle.format.specs.Image.{Checked, good, refused, read_image}
 use Rattle.format.specs.RoundTrip.{refusal}
 use Rattle.image.specs.Meant.{answered, verdict}
 
 abbrev zeros : Verdict
 zeros = record { number = 0; place = 0 }
 
-pub says-good : (x : Checked) {r : Loaded} → tag_of the_type r ≡ 0 → r ≡ answered x → zeros ≡ verdict x
-says-good (good g) t e = refl
-says-good (refused n place) t e = let z : ◌≡◌ {A = ℕ} 0 1 = sym t ∙ ap (tag_of the_type) e in absurd (omega arith)
+pub says_good : (x : Checked) {r : Loaded} → tag_of the_type r ≡ 0 → r ≡ answered x → zeros ≡ verdict x
+says_good (good g) t e = refl
+says_good (refused n place) t e = let z : ◌≡◌ {A = ℕ} 0 1 = sym t ∙ ap (tag_of the_type) e in absurd (omega arith)
 
-pub says-refused : (x : Checked) {r : Loaded} {f : Refusal} → r ≡ Refused f → r ≡ answered x → x ≡ refused f.number f.place
-says-refused (good g) e q = let z : ◌≡◌ {A = ℕ} 0 1 = cc in absurd (omega arith)
-says-refused (refused n place) {f =
+pub says_refused : (x : Checked) {r : Loaded} {f : Refusal} → r ≡ Refused f → r ≡ answered x → x ≡ refused f.number f.place
+says_refused (good g) e q = let z : ◌≡◌ {A = ℕ} 0 1 = cc in absurd (omega arith)
+says_refused (refused n place) {f =
     f} e q = let same : record { number = n; place = place } ≡ f = cc in ap (λ f. refused f.number f.place) same
 
-pub place-small :
-    (image : List ℕ) → Bytes image → {r : Loaded} {f : Refusal} → r ≡ Refused f → r ≡ answered (readImage image) → f.place ≤ 16384
-place-small image bytes {f = f} e q = (refusal image bytes f.number f.place (says-refused (readImage image) e q)).small
+pub place_small :
+    (image : List ℕ) → Bytes image → {r : Loaded} {f : Refusal} → r ≡ Refused f → r ≡ answered (read_image image) → f.place ≤ 16384
+place_small image bytes {f = f} e q = (refusal image bytes f.number f.place (says_refused (read_image image) e q)).small

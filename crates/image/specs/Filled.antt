@@ -6,9 +6,9 @@ use Rattle.grammar.specs.Grammar.{Grammar, tables, size, node, pattern}
 use Rattle.reader.specs.declared.number.Read.{Read}
 use Rattle.image.specs.declared.walk.Loaded.{Loaded}
 use Rattle.format.specs.Reading.{Reading, got, fault, pick, ◌then◌}
-use Rattle.format.specs.Image.{times, Head, bounded, headAt, patternsAt, good, readImage}
+use Rattle.format.specs.Image.{times, Head, bounded, head_at, patterns_at, good, read_image}
 use Rattle.image.specs.Word.{word_at}
-use Rattle.image.specs.Node.{node_of, exprOf, InImage}
+use Rattle.image.specs.Node.{node_of, expr_of, InImage}
 use Rattle.reader.specs.Meant.{reading}
 use Rattle.image.specs.Meant.{answered}
 
@@ -32,8 +32,8 @@ pub record Fills (p : ℕ → ℕ → Reading ℕ) (to k at : ℕ) (before after
   pub array : after ≡ filling p to 0 k at before
 
 module _ (image : List ℕ) where
-  abbrev pub withPatterns : Head → ℕ → List ℕ → List ℕ
-  withPatterns h = filling (λ t. bounded image 7 0 h.nodes) 512 0 h.tables
+  abbrev pub with_patterns : Head → ℕ → List ℕ → List ℕ
+  with_patterns h = filling (λ t. bounded image 7 0 h.nodes) 512 0 h.tables
 
   abbrev pub with_nodes : Head → ℕ → List ℕ → List ℕ
   with_nodes h = filling (word_at image h.tables h.conditions h.nodes) 0 0 h.nodes
@@ -42,15 +42,15 @@ module _ (image : List ℕ) where
   -- as far as they can be read; then, if all could, the nodes, as far as they can be read.
   abbrev pub filled : List ℕ → List ℕ
   filled code = pick (ltb 16384 (length image)) code
-      (unless (headAt image) code λ h at.
-      unless (patternsAt image h at) (withPatterns h at code) λ patterns next.
-      with_nodes h next (withPatterns h at code))
+      (unless (head_at image) code λ h at.
+      unless (patterns_at image h at) (with_patterns h at code) λ patterns next.
+      with_nodes h next (with_patterns h at code))
 
 -- The walk's promise: what is said of the image; what the array holds, after a refusal too; and, for a good image, at each
 -- node's number the node of the grammar, whose bytes lie in the image if it is a Text, and at each table's place its pattern.
 pub record Loads (image before after : List ℕ) (r : Loaded) : Type 0 where
-  pub answer : r ≡ answered (readImage image)
+  pub answer : r ≡ answered (read_image image)
   pub array : after ≡ filled image before
-  pub nodes : (g : Grammar) → readImage image ≡ good g → (n : ℕ) → n < size g → exprOf image (node_of (get_or after n 0)) ≡ node g n
-  pub texts : (g : Grammar) → readImage image ≡ good g → (n : ℕ) → n < size g → InImage image (node_of (get_or after n 0))
-  pub patterns : (g : Grammar) → readImage image ≡ good g → (t : ℕ) → t < tables g → get_or after (512 + t) 0 ≡ pattern g t
+  pub nodes : (g : Grammar) → read_image image ≡ good g → (n : ℕ) → n < size g → expr_of image (node_of (get_or after n 0)) ≡ node g n
+  pub texts : (g : Grammar) → read_image image ≡ good g → (n : ℕ) → n < size g → InImage image (node_of (get_or after n 0))
+  pub patterns : (g : Grammar) → read_image image ≡ good g → (t : ℕ) → t < tables g → get_or after (512 + t) 0 ≡ pattern g t

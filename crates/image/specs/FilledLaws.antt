@@ -5,7 +5,7 @@ use Rattle.std.proofs.Common.{ap, subst, ◌∙◌, add-one, length-set, get_or-
 use Rattle.std.proofs.Math.Path.{sym}
 use native.Mathlib.Omega.{arith}
 use Rattle.format.specs.Reading.{Reading, got, fault, pick, ◌then◌}
-use Rattle.format.specs.ReadingLaws.{onward, then-assoc}
+use Rattle.format.specs.ReadingLaws.{onward, then_assoc}
 use Rattle.format.specs.Image.{times}
 use Rattle.image.specs.Filled.{unless, filling, counted}
 
@@ -16,10 +16,10 @@ module _ (p : ℕ → ℕ → Reading ℕ) (to N : ℕ) where
   rest : (i k : ℕ) → ℕ → ℕ → Reading ℕ
   rest i k x at = (times p (suc i) k at then λ xs at. got (x ∷ xs) at) then counted N
 
-  one-read : (i k at : ℕ) {r : Reading ℕ} → r ≡ p i at → (r then rest i k) ≡ (times p i (suc k) at then counted N)
+  one_read : (i k at : ℕ) {r : Reading ℕ} → r ≡ p i at → (r then rest i k) ≡ (times p i (suc k) at then counted N)
   unfolding rest
-  one-read i k at {r} e =
-      onward (rest i k) e ∙ sym (then-assoc (p i at) (λ x at. times p (suc i) k at then λ xs at. got (x ∷ xs) at) (counted N))
+  one_read i k at {r} e =
+      onward (rest i k) e ∙ sym (then_assoc (p i at) (λ x at. times p (suc i) k at then λ xs at. got (x ∷ xs) at) (counted N))
 
   one_down :
       (i k at : ℕ) (l : List ℕ) {r : Reading ℕ} → r ≡ p i at
@@ -33,34 +33,34 @@ module _ (p : ℕ → ℕ → Reading ℕ) (to N : ℕ) where
     pub result : (times p i (N - i) at then counted N) ≡ (times p 0 N start then counted N)
     pub array : filling p to i (N - i) at now ≡ filling p to 0 N start before
 
-  pub filling-starts : (start : ℕ) (l : List ℕ) → Filling start l l 0 start
-  filling-starts start l = let e : N - 0 ≡ N = omega arith in record { on = omega arith; result = rw e; array = rw e }
+  pub filling_starts : (start : ℕ) (l : List ℕ) → Filling start l l 0 start
+  filling_starts start l = let e : N - 0 ≡ N = omega arith in record { on = omega arith; result = rw e; array = rw e }
 
   module _ {start : ℕ} {before now : List ℕ} {i at : ℕ} (f : Filling start before now i at) where
     -- One more is read and put down.
-    pub filling-more : i < N → {w next : ℕ} → got w next ≡ p i at → Filling start before (set now (to + i) w) (i + 1) next
+    pub filling_more : i < N → {w next : ℕ} → got w next ≡ p i at → Filling start before (set now (to + i) w) (i + 1) next
     unfolding rest
-    filling-more h {w} {next} e =
+    filling_more h {w} {next} e =
         let left : N - i ≡ suc (N - suc i) = omega arith in
         record {
           on = omega arith;
-          result = rw (add-one i) (sym (then-assoc (times p (suc i) (N - suc i) next) (λ xs at. got (w ∷ xs) at) (counted N))
-              ∙ one-read i (N - suc i) at e ∙ rw left at f.result);
+          result = rw (add-one i) (sym (then_assoc (times p (suc i) (N - suc i) next) (λ xs at. got (w ∷ xs) at) (counted N))
+              ∙ one_read i (N - suc i) at e ∙ rw left at f.result);
           array = rw (add-one i) (one_down i (N - suc i) at now e ∙ rw left at f.array);
         }
 
     -- One cannot be read.
-    pub filling-stops :
+    pub filling_stops :
         i < N → {n place : ℕ} → fault n place ≡ p i at
         → (fault n place ≡ (times p 0 N start then counted N)) × (now ≡ filling p to 0 N start before)
     unfolding rest
-    filling-stops h e =
+    filling_stops h e =
         let left : N - i ≡ suc (N - suc i) = omega arith in
-        (one-read i (N - suc i) at e ∙ rw left at f.result, one_down i (N - suc i) at now e ∙ rw left at f.array)
+        (one_read i (N - suc i) at e ∙ rw left at f.result, one_down i (N - suc i) at now e ∙ rw left at f.array)
 
     -- All are read.
-    pub filling-ends : N ≤ i → (got N at ≡ (times p 0 N start then counted N)) × (now ≡ filling p to 0 N start before)
-    filling-ends h =
+    pub filling_ends : N ≤ i → (got N at ≡ (times p 0 N start then counted N)) × (now ≡ filling p to 0 N start before)
+    filling_ends h =
         let left : N - i ≡ 0 = omega arith in
         (rw left at f.result, rw left at f.array)
 
@@ -71,11 +71,11 @@ module _ (p : ℕ → ℕ → Reading ℕ) (to : ℕ) where
   plus_suc i m = omega arith
 
   -- A place where nothing is put down is left as it was.
-  pub filling-other :
+  pub filling_other :
       (i k at j : ℕ) (l : List ℕ) → ((m : ℕ) → m < k → j ≡ to + (i + m) → ⊥) → get_or (filling p to i k at l) j 0 ≡ get_or l j 0
-  filling-other i zero at j l out = refl
-  filling-other i (suc k) at j l out =
-      go (p i at) λ w next. filling-other (suc i) k next j (set l (to + i) w) (λ m h e. out (suc m) (omega arith) (rw (plus_suc i m) e))
+  filling_other i zero at j l out = refl
+  filling_other i (suc k) at j l out =
+      go (p i at) λ w next. filling_other (suc i) k next j (set l (to + i) w) (λ m h e. out (suc m) (omega arith) (rw (plus_suc i m) e))
     where
       here : j ≡ to + i → ⊥
       here e = out 0 (omega arith) (omega arith)
@@ -91,14 +91,14 @@ module _ (p : ℕ → ℕ → Reading ℕ) (to : ℕ) where
       (n : ℕ) (l ws : List ℕ) (end : ℕ) → times p i k at ≡ got ws end → n < k → to + (i + k) ≤ length l
       → get_or (filling p to i k at l) (to + (i + n)) 0 ≡ get_or ws n 0
 
-  pub filling-at : (i k at : ℕ) → Stand i k at
-  filling-at i zero at n l ws end e h long = absurd (omega arith)
-  filling-at i (suc k) at n l ws end e h long = one (p i at) e λ next. filling-at (suc i) k next
+  pub filling_at : (i k at : ℕ) → Stand i k at
+  filling_at i zero at n l ws end e h long = absurd (omega arith)
+  filling_at i (suc k) at n l ws end e h long = one (p i at) e λ next. filling_at (suc i) k next
     where
       at_first : (w next : ℕ) → get_or (filling p to (suc i) k next (set l (to + i) w)) (to + (i + 0)) 0 ≡ w
       at_first w next =
           let here : to + (i + 0) ≡ to + i = omega arith in
-          rw here (filling-other (suc i) k next (to + i) (set l (to + i) w) (λ m h e. omega arith)
+          rw here (filling_other (suc i) k next (to + i) (set l (to + i) w) (λ m h e. omega arith)
           ∙ get_or-set_same l (to + i) w 0 (omega arith))
 
       which :
@@ -122,9 +122,9 @@ module _ (p : ℕ → ℕ → Reading ℕ) (to : ℕ) where
       one (got w next) e later = more w next (times p (suc i) k next) refl e (later next)
       one (fault m place) e later = let z : ◌≡◌ {A = ℕ} 0 1 = cc in absurd (omega arith)
 
-  pub filling-length : (i k at : ℕ) (l : List ℕ) → length (filling p to i k at l) ≡ length l
-  filling-length i zero at l = refl
-  filling-length i (suc k) at l = go (p i at) λ w next. filling-length (suc i) k next (set l (to + i) w)
+  pub filling_length : (i k at : ℕ) (l : List ℕ) → length (filling p to i k at l) ≡ length l
+  filling_length i zero at l = refl
+  filling_length i (suc k) at l = go (p i at) λ w next. filling_length (suc i) k next (set l (to + i) w)
     where
       go : (r : Reading ℕ) → ((w next : ℕ) → length (filling p to (suc i) k next (set l (to + i) w)) ≡ length (set l (to + i) w))
           → length (unless r l (λ w next. filling p to (suc i) k next (set l (to + i) w))) ≡ length l

@@ -20,26 +20,26 @@ unfoldable pub node_of : (word : ℕ) → Node
 node_of word = kind_of (word % 32) (word / 32 % 32768) (word / 1048576)
 
 -- The expression of a node; the bytes of a Text are found in the image.
-abbrev pub exprOf : (image : List ℕ) → Node → e.Expr
-exprOf image Empty = e.Empty
-exprOf image (Byte b) = e.Byte b
-exprOf image (Range lo hi) = e.Range lo hi
-exprOf image Any = e.Any
-exprOf image (Text place count) = e.Text (take count (drop place image))
-exprOf image (Sequence a b) = e.Sequence a b
-exprOf image (Choice a b) = e.Choice a b
-exprOf image (Star a) = e.Star a
-exprOf image (Not a) = e.Not a
-exprOf image (Call a) = e.Call a
-exprOf image (Def t) = e.Def t
-exprOf image (Match t) = e.Match t
-exprOf image (Is t) = e.Is t
-exprOf image (Isa t) = e.Isa t
-exprOf image (Exists t) = e.Exists t
-exprOf image (Block t a) = e.Block t a
-exprOf image (Local t a) = e.Local t a
-exprOf image (If c truth) = e.If c truth
-exprOf image (On c truth a) = e.On c truth a
+abbrev pub expr_of : (image : List ℕ) → Node → e.Expr
+expr_of image Empty = e.Empty
+expr_of image (Byte b) = e.Byte b
+expr_of image (Range lo hi) = e.Range lo hi
+expr_of image Any = e.Any
+expr_of image (Text place count) = e.Text (take count (drop place image))
+expr_of image (Sequence a b) = e.Sequence a b
+expr_of image (Choice a b) = e.Choice a b
+expr_of image (Star a) = e.Star a
+expr_of image (Not a) = e.Not a
+expr_of image (Call a) = e.Call a
+expr_of image (Def t) = e.Def t
+expr_of image (Match t) = e.Match t
+expr_of image (Is t) = e.Is t
+expr_of image (Isa t) = e.Isa t
+expr_of image (Exists t) = e.Exists t
+expr_of image (Block t a) = e.Block t a
+expr_of image (Local t a) = e.Local t a
+expr_of image (If c truth) = e.If c truth
+expr_of image (On c truth a) = e.On c truth a
 
 -- None is asked for.
 abbrev nothing : Span

@@ -20,8 +20,8 @@ module _ (image : List ℕ) where
   last_at tag stop a at = bounded image 7 0 stop at then word2 tag a
 
   -- The higher end of a range, after its lower end.
-  abbrev pub highAt : (lo at : ℕ) → Reading ℕ
-  highAt lo at = bounded image 7 lo 256 at then word2 2 lo
+  abbrev pub high_at : (lo at : ℕ) → Reading ℕ
+  high_at lo at = bounded image 7 lo 256 at then word2 2 lo
 
   -- k raw bytes, which are passed over: their place and their count are kept.
   abbrev pub bytes_at : (k at : ℕ) → Reading ℕ
@@ -34,20 +34,20 @@ module _ (image : List ℕ) where
   abbrev pub one_at : (tag stop at : ℕ) → Reading ℕ
   one_at tag stop at = bounded image 7 0 stop at then word1 tag
 
-  abbrev pub twoAt : (tag first second at : ℕ) → Reading ℕ
-  twoAt tag first second at = bounded image 7 0 first at then last_at tag second
+  abbrev pub two_at : (tag first second at : ℕ) → Reading ℕ
+  two_at tag first second at = bounded image 7 0 first at then last_at tag second
 
-  abbrev pub rangeAt : ℕ → Reading ℕ
-  rangeAt at = bounded image 7 0 256 at then highAt
+  abbrev pub range_at : ℕ → Reading ℕ
+  range_at at = bounded image 7 0 256 at then high_at
 
-  abbrev pub textAt : ℕ → Reading ℕ
-  textAt at = bounded image 7 1 65 at then bytes_at
+  abbrev pub text_at : ℕ → Reading ℕ
+  text_at at = bounded image 7 1 65 at then bytes_at
 
-  abbrev pub switchAt : (conditions at : ℕ) → Reading ℕ
-  switchAt conditions at = bounded image 7 0 conditions at then truth_of
+  abbrev pub switch_at : (conditions at : ℕ) → Reading ℕ
+  switch_at conditions at = bounded image 7 0 conditions at then truth_of
 
-  abbrev pub ifAt : (conditions at : ℕ) → Reading ℕ
-  ifAt conditions at = switchAt conditions at then word1 17
+  abbrev pub if_at : (conditions at : ℕ) → Reading ℕ
+  if_at conditions at = switch_at conditions at then word1 17
 
-  abbrev pub onAt : (conditions own at : ℕ) → Reading ℕ
-  onAt conditions own at = switchAt conditions at then last_at 18 own
+  abbrev pub on_at : (conditions own at : ℕ) → Reading ℕ
+  on_at conditions own at = switch_at conditions at then last_at 18 own

@@ -8,20 +8,20 @@ use Rattle.image.specs.declared.walk.Header.TheVariants.{Found, Refused as NoHea
 use Rattle.image.specs.declared.walk.Loaded.{Loaded}
 use Rattle.image.specs.declared.walk.Verdict.{Verdict}
 use Rattle.format.specs.Reading.{Reading}
-use Rattle.format.specs.Image.{Head, readImage}
+use Rattle.format.specs.Image.{Head, read_image}
 use Rattle.image.specs.declared.node.Node.{Node}
 use Rattle.image.specs.declared.node.Span.{Span}
 use Rattle.image.specs.Word.{packed}
 use Rattle.image.specs.Node.{node_of, span_of}
 use Rattle.image.specs.Filled.{Fills, Loads}
-use Rattle.reader.specs.Unique.{one-reading}
+use Rattle.reader.specs.Unique.{one_reading}
 use Rattle.image.specs.Meant.{header, verdict}
 
--- `bounded`, `word_at` and every function that reads operands promise `reading r ≡ x`: `one-reading` of `reader`.
+-- `bounded`, `word_at` and every function that reads operands promise `reading r ≡ x`: `one_reading` of `reader`.
 
 -- `head_of`: it promises `header r ≡ x`.
-pub one-header : (r s : Header) {x : Reading Head} → header r ≡ x → header s ≡ x → r ≡ s
-one-header r s e f = same r s (e ∙ sym f)
+pub one_header : (r s : Header) {x : Reading Head} → header r ≡ x → header s ≡ x → r ≡ s
+one_header r s e f = same r s (e ∙ sym f)
   where
     said : code.Head → Head
     said h = record { tables = h.tables; conditions = h.conditions; nodes = h.nodes; start = h.start }
@@ -44,24 +44,24 @@ one-header r s e f = same r s (e ∙ sym f)
         λ i. NoHead (record { number = number i; place = place i })
 
 -- `fill_patterns` and `fill_nodes`: what is read and what the array holds.
-pub one-filling :
+pub one_filling :
     {p : ℕ → ℕ → Reading ℕ} {to k at : ℕ} {before after after' : List ℕ} {r r' : Read} → Fills p to k at before after r
     → Fills p to k at before after' r' → (r ≡ r') × (after ≡ after')
-one-filling {r = r} {r' = r'} f g = (one-reading r r' f.result g.result, f.array ∙ sym g.array)
+one_filling {r = r} {r' = r'} f g = (one_reading r r' f.result g.result, f.array ∙ sym g.array)
 
 -- `load`: what is said and what the array holds, after a refusal too.
-pub one-loading :
+pub one_loading :
     {image before after after' : List ℕ} {r r' : Loaded} → Loads image before after r → Loads image before after' r'
     → (r ≡ r') × (after ≡ after')
-one-loading f g = (f.answer ∙ sym g.answer, f.array ∙ sym g.array)
+one_loading f g = (f.answer ∙ sym g.answer, f.array ∙ sym g.array)
 
 -- `check`
-pub one-verdict : (image : List ℕ) (r r' : Verdict) → r ≡ verdict (readImage image) → r' ≡ verdict (readImage image) → r ≡ r'
-one-verdict image r r' e f = e ∙ sym f
+pub one_verdict : (image : List ℕ) (r r' : Verdict) → r ≡ verdict (read_image image) → r' ≡ verdict (read_image image) → r ≡ r'
+one_verdict image r r' e f = e ∙ sym f
 
 -- `node_of`
-pub one-node : (word : ℕ) (r r' : Node) → r ≡ node_of word → r' ≡ node_of word → r ≡ r'
-one-node word r r' e f = e ∙ sym f
+pub one_node : (word : ℕ) (r r' : Node) → r ≡ node_of word → r' ≡ node_of word → r ≡ r'
+one_node word r r' e f = e ∙ sym f
 
 -- `span_of`
 pub one_span : (k : Node) (r r' : Span) → r ≡ span_of k → r' ≡ span_of k → r ≡ r'

@@ -4,7 +4,7 @@ use Rattle.std.specs.Prelude.{ℕ, ◌+◌, ◌-◌, ◌*◌, List, length}
 use Rattle.grammar.specs.Expr.{Expr, Empty, Byte, Range, Any, Text, Sequence, Choice, Star, Not, Call, Def, Match, Is, Isa, Exists, Block, Local, If, On}
 use Rattle.format.specs.Reading.{Reading, got, ◌then◌}
 use Rattle.format.specs.Written.{bit}
-use Rattle.format.specs.Image.{nodeAt}
+use Rattle.format.specs.Image.{node_at}
 
 -- The tag in the lowest five bits, the first operand in the next fifteen, the second in the twelve above.
 abbrev pub packed : (tag a b : ℕ) → ℕ
@@ -42,4 +42,4 @@ keep e next = got (kept e next) next
 
 -- The node at a place of an image, as its word.
 abbrev pub word_at : (image : List ℕ) (T C N own at : ℕ) → Reading ℕ
-word_at image T C N own at = nodeAt image T C N own at then keep
+word_at image T C N own at = node_at image T C N own at then keep

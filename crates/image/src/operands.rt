@@ -2,7 +2,7 @@
 ghost use Rattle.std.specs.Prelude.{◌≡◌, ◌<◌, ◌≤◌, length};
 ghost use Rattle.image.specs.Word.{word_at};
 ghost use Rattle.reader.specs.Meant.{reading};
-ghost use Rattle.image.specs.Shapes.{one_at, twoAt, rangeAt, textAt, switchAt, ifAt, onAt};
+ghost use Rattle.image.specs.Shapes.{one_at, two_at, range_at, text_at, switch_at, if_at, on_at};
 
 use crate::node::word;
 use crate::number::bounded;
@@ -26,7 +26,7 @@ fn one_operand(image: &[u8], at: usize, tag: u32, stop: u32) -> Read
 // Two operands, the first below `first` and the second below `second`.
 fn two_operands(image: &[u8], at: usize, tag: u32, first: u32, second: u32) -> Read
     requires { (tag < 32) × (first ≤ 512) × (second ≤ 512) }
-    ensures { reading result ≡ twoAt image.now tag first second at }
+    ensures { reading result ≡ two_at image.now tag first second at }
 {
     let r = bounded(image, at, 0, first, 7);
     let Read::Got(a) = r else {
@@ -44,7 +44,7 @@ fn two_operands(image: &[u8], at: usize, tag: u32, first: u32, second: u32) -> R
 
 // The two ends of a range: lo is a byte, and hi is a byte that is not below lo.
 fn range_operands(image: &[u8], at: usize) -> Read
-    ensures { reading result ≡ rangeAt image.now at }
+    ensures { reading result ≡ range_at image.now at }
 {
     let r = bounded(image, at, 0, 256, 7);
     let Read::Got(lo) = r else {
@@ -63,7 +63,7 @@ fn range_operands(image: &[u8], at: usize) -> Read
 // The count of a text, and its raw bytes, which stay where they are.
 fn text_operands(image: &[u8], at: usize) -> Read
     requires { length image.now ≤ 16384 }
-    ensures { reading result ≡ textAt image.now at }
+    ensures { reading result ≡ text_at image.now at }
 {
     let r = bounded(image, at, 1, 65, 7);
     let Read::Got(k) = r else {
@@ -93,7 +93,7 @@ fn text_operands(image: &[u8], at: usize) -> Read
 // A condition and its truth, as one number.
 fn switch(image: &[u8], at: usize, conditions: u32) -> Read
     requires { conditions ≤ 512 }
-    ensures { reading result ≡ switchAt image.now conditions at }
+    ensures { reading result ≡ switch_at image.now conditions at }
 {
     let r = bounded(image, at, 0, conditions, 7);
     let Read::Got(c) = r else {
@@ -111,7 +111,7 @@ fn switch(image: &[u8], at: usize, conditions: u32) -> Read
 
 fn if_operands(image: &[u8], at: usize, conditions: u32) -> Read
     requires { conditions ≤ 512 }
-    ensures { reading result ≡ ifAt image.now conditions at }
+    ensures { reading result ≡ if_at image.now conditions at }
 {
     let r = switch(image, at, conditions);
     let Read::Got(s) = r else {
@@ -125,7 +125,7 @@ fn if_operands(image: &[u8], at: usize, conditions: u32) -> Read
 
 fn on_operands(image: &[u8], at: usize, conditions: u32, own: u32) -> Read
     requires { (conditions ≤ 512) × (own ≤ 512) }
-    ensures { reading result ≡ onAt image.now conditions own at }
+    ensures { reading result ≡ on_at image.now conditions own at }
 {
     let r = switch(image, at, conditions);
     let Read::Got(s) = r else {

@@ -1,6 +1,6 @@
 // One walk over an image: it is checked, and what the evaluator visits nodes by is put down on the way.
 ghost use Rattle.std.specs.Prelude.{◌≡◌, ◌≤◌, length};
-ghost use Rattle.format.specs.Image.{bounded, headAt, readImage};
+ghost use Rattle.format.specs.Image.{bounded, head_at, read_image};
 ghost use Rattle.image.specs.Word.{word_at};
 ghost use Rattle.image.specs.Filled.{Fills, Loads};
 ghost use Rattle.image.specs.Meant.{header, verdict};
@@ -34,7 +34,7 @@ pub enum Loaded {
 
 // Edition, tables, conditions, nodes, start.
 fn head_of(image: &[u8]) -> Header
-    ensures { header result ≡ headAt image.now }
+    ensures { header result ≡ head_at image.now }
 {
     let r = bounded(image, 0, 1, 2, 4);
     let edition = match r {
@@ -167,7 +167,7 @@ pub struct Verdict {
 
 // Checks an image.
 pub fn check(image: &[u8]) -> Verdict
-    ensures { result ≡ verdict (readImage image.now) }
+    ensures { result ≡ verdict (read_image image.now) }
 {
     let mut code = [0u32; 524];
     let r = load(image, &mut code);

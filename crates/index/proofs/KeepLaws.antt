@@ -9,8 +9,8 @@ use Rattle.notation.specs.Tree.{Name}
 use Rattle.notation.specs.At.{name_at}
 use Rattle.notation.specs.Compile.{place}
 use Rattle.index.specs.Listed.{names_at, Ascending, Stands, Belongs, put_in, Keeps}
-use Rattle.index.specs.ListedLaws.{stands-insert, stands-member, stands-place, belongs-insert, belongs-member, belongs-place}
-use Rattle.index.specs.PlaceLaws.{names-length, put-names, put_rest, put-length}
+use Rattle.index.specs.ListedLaws.{stands_insert, stands_member, stands_place, belongs_insert, belongs_member, belongs_place}
+use Rattle.index.specs.PlaceLaws.{names_length, put_names, put_rest, put_length}
 
 module _ (text at : List ℕ) (count p index : ℕ) (room : count < length at) where
   abbrev name : Name
@@ -20,37 +20,37 @@ module _ (text at : List ℕ) (count p index : ℕ) (room : count < length at) w
   names = names_at text at count
 
   many : length names ≡ count
-  many = names-length text at count (omega arith)
+  many = names_length text at count (omega arith)
 
-  pub keeps-old : Ascending names → Stands name names index → Keeps text at count p at (record { count = count; index = index; fresh = false })
-  keeps-old a s =
-      let e = stands-insert name names index s a in
+  pub keeps_old : Ascending names → Stands name names index → Keeps text at count p at (record { count = count; index = index; fresh = false })
+  keeps_old a s =
+      let e = stands_insert name names index s a in
       record {
         names = sym e;
-        fresh = sym (ap not (stands-member name names index s));
+        fresh = sym (ap not (stands_member name names index s));
         many = refl;
         fewest = omega arith;
         most = omega arith;
-        index = sym (ap (place name) e ∙ stands-place name names index s a);
+        index = sym (ap (place name) e ∙ stands_place name names index s a);
         inside = omega (arith, s.inside, many);
         whole = refl;
         rest = refl;
         long = refl;
       }
 
-  pub keeps-new : {now : List ℕ} → now ≡ put_in at count index p → Belongs name names index
+  pub keeps_new : {now : List ℕ} → now ≡ put_in at count index p → Belongs name names index
       → Keeps text at count p now (record { count = count + 1; index = index; fresh = true })
-  keeps-new {now} e b =
+  keeps_new {now} e b =
       let h : index ≤ count = omega (arith, b.within, many) in
       record {
-        names = ap (λ l. names_at text l (count + 1)) e ∙ put-names at count index p h room text ∙ sym (belongs-insert name names index b);
-        fresh = sym (ap not (belongs-member name names index b));
+        names = ap (λ l. names_at text l (count + 1)) e ∙ put_names at count index p h room text ∙ sym (belongs_insert name names index b);
+        fresh = sym (ap not (belongs_member name names index b));
         many = refl;
         fewest = omega arith;
         most = omega arith;
-        index = sym (belongs-place name names index b);
+        index = sym (belongs_place name names index b);
         inside = omega arith;
         whole = e;
         rest = rw e (put_rest at count index p h room);
-        long = rw e (put-length at count index p h room);
+        long = rw e (put_length at count index p h room);
       }

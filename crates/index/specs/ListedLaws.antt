@@ -11,7 +11,7 @@ use Rattle.notation.specs.Lexer.{same}
 use Rattle.notation.specs.SymbolsLaws.{same_refl}
 use Rattle.notation.specs.Naming.{member}
 use Rattle.notation.specs.Compile.{Order, lower, equal, higher, order, insert, sorted, place}
-use Rattle.notation.specs.OrderLaws.{order_same, lower-turned, higher-turned, lower-lower, same-equal, not-same-higher, below-lower, below-member, insert-lower, insert-equal, insert-higher}
+use Rattle.notation.specs.OrderLaws.{order_same, lower_turned, higher_turned, lower_lower, same_equal, not_same_higher, below_lower, below_member, insert_lower, insert_equal, insert_higher}
 use Rattle.index.specs.Listed.{Below, Above, Ascending, Stands, Belongs}
 
 -- ## A list in order against a name that is lower or higher than the one at a place
@@ -21,19 +21,19 @@ below_at n [] i h b = absurd (omega arith)
 below_at n (m ∷ ms) zero h b = b.0
 below_at n (m ∷ ms) (suc i) h b = below_at n ms i (omega arith) b.1
 
-pub lower-from : (n : Name) (ns : List Name) (i : ℕ) → i < length ns → Ascending ns → order n (get_or ns i []) ≡ lower → Below n (drop i ns)
-lower-from n [] i h a e = absurd (omega arith)
-lower-from n (m ∷ ms) zero h a e = (e, below-lower n m ms e a.0)
-lower-from n (m ∷ ms) (suc i) h a e = lower-from n ms i (omega arith) a.1 e
+pub lower_from : (n : Name) (ns : List Name) (i : ℕ) → i < length ns → Ascending ns → order n (get_or ns i []) ≡ lower → Below n (drop i ns)
+lower_from n [] i h a e = absurd (omega arith)
+lower_from n (m ∷ ms) zero h a e = (e, below_lower n m ms e a.0)
+lower_from n (m ∷ ms) (suc i) h a e = lower_from n ms i (omega arith) a.1 e
 
-pub higher-to :
+pub higher_to :
     (n : Name) (ns : List Name) (i : ℕ) → i < length ns → Ascending ns → order n (get_or ns i []) ≡ higher → Above n (take (suc i) ns)
-higher-to n [] i h a e = absurd (omega arith)
-higher-to n (m ∷ ms) zero h a e = (e, tt)
-higher-to n (m ∷ ms) (suc i) h a e =
+higher_to n [] i h a e = absurd (omega arith)
+higher_to n (m ∷ ms) zero h a e = (e, tt)
+higher_to n (m ∷ ms) (suc i) h a e =
     let k = get_or ms i [] in
-    let b : order m n ≡ lower = lower-lower m k n (below_at m ms i (omega arith) a.0) (higher-turned n k e) in
-    (lower-turned m n b, higher-to n ms i (omega arith) a.1 e)
+    let b : order m n ≡ lower = lower_lower m k n (below_at m ms i (omega arith) a.0) (higher_turned n k e) in
+    (lower_turned m n b, higher_to n ms i (omega arith) a.1 e)
 
 -- ## A name that is not there, at the place where it belongs
 
@@ -42,52 +42,52 @@ module _ (n : Name) where
   unfolding insert
   goes_in [] zero a b = refl
   goes_in [] (suc i) a b = refl
-  goes_in (m ∷ ms) zero a b = insert-lower n m ms b.0
-  goes_in (m ∷ ms) (suc i) a b = insert-higher n m ms a.0 ∙ ap (λ r. m ∷ r) (goes_in ms i a.1 b)
+  goes_in (m ∷ ms) zero a b = insert_lower n m ms b.0
+  goes_in (m ∷ ms) (suc i) a b = insert_higher n m ms a.0 ∙ ap (λ r. m ∷ r) (goes_in ms i a.1 b)
 
-  is-none : (ns : List Name) (i : ℕ) → Above n (take i ns) → Below n (drop i ns) → member n ns ≡ false
+  is_none_lem : (ns : List Name) (i : ℕ) → Above n (take i ns) → Below n (drop i ns) → member n ns ≡ false
   unfolding member
-  is-none [] i a b = refl
-  is-none (m ∷ ms) zero a b = below-member n (m ∷ ms) b
-  is-none (m ∷ ms) (suc i) a b = rw (not-same-higher n m a.0) (is-none ms i a.1 b)
+  is_none_lem [] i a b = refl
+  is_none_lem (m ∷ ms) zero a b = below_member n (m ∷ ms) b
+  is_none_lem (m ∷ ms) (suc i) a b = rw (not_same_higher n m a.0) (is_none_lem ms i a.1 b)
 
-  comes-at : (ns : List Name) (i : ℕ) → i ≤ length ns → Above n (take i ns) → place n (take i ns ++ n ∷ drop i ns) ≡ i
+  comes_at : (ns : List Name) (i : ℕ) → i ≤ length ns → Above n (take i ns) → place n (take i ns ++ n ∷ drop i ns) ≡ i
   unfolding place
-  comes-at [] zero h a = rw (same_refl n)
-  comes-at [] (suc i) h a = absurd (omega arith)
-  comes-at (m ∷ ms) zero h a = rw (same_refl n)
-  comes-at (m ∷ ms) (suc i) h a = rw (not-same-higher n m a.0) (ap suc (comes-at ms i (omega arith) a.1))
+  comes_at [] zero h a = rw (same_refl n)
+  comes_at [] (suc i) h a = absurd (omega arith)
+  comes_at (m ∷ ms) zero h a = rw (same_refl n)
+  comes_at (m ∷ ms) (suc i) h a = rw (not_same_higher n m a.0) (ap suc (comes_at ms i (omega arith) a.1))
 
   module _ (ns : List Name) (i : ℕ) (b : Belongs n ns i) where
-    pub belongs-insert : insert n ns ≡ take i ns ++ n ∷ drop i ns
-    belongs-insert = goes_in ns i b.before b.behind
+    pub belongs_insert : insert n ns ≡ take i ns ++ n ∷ drop i ns
+    belongs_insert = goes_in ns i b.before b.behind
 
-    pub belongs-member : member n ns ≡ false
-    belongs-member = is-none ns i b.before b.behind
+    pub belongs_member : member n ns ≡ false
+    belongs_member = is_none_lem ns i b.before b.behind
 
-    pub belongs-place : place n (insert n ns) ≡ i
-    belongs-place = ap (place n) belongs-insert ∙ comes-at ns i b.within b.before
+    pub belongs_place : place n (insert n ns) ≡ i
+    belongs_place = ap (place n) belongs_insert ∙ comes_at ns i b.within b.before
 
 -- ## A name that stands at a place
 
 module _ (n : Name) where
-  is-equal : (m : Name) → m ≡ n → order n m ≡ equal
-  is-equal m e = rw e (order_same n)
+  is_equal : (m : Name) → m ≡ n → order n m ≡ equal
+  is_equal m e = rw e (order_same n)
 
-  later-higher : (m : Name) (ms : List Name) (i : ℕ) → i < length ms → Below m ms → get_or ms i [] ≡ n → order n m ≡ higher
-  later-higher m ms i h b e = lower-turned m n (rw e at (below_at m ms i h b))
+  later_higher : (m : Name) (ms : List Name) (i : ℕ) → i < length ms → Below m ms → get_or ms i [] ≡ n → order n m ≡ higher
+  later_higher m ms i h b e = lower_turned m n (rw e at (below_at m ms i h b))
 
-  goes-nowhere : (ns : List Name) (i : ℕ) → i < length ns → get_or ns i [] ≡ n → Ascending ns → insert n ns ≡ ns
-  goes-nowhere [] i h e a = absurd (omega arith)
-  goes-nowhere (m ∷ ms) zero h e a = insert-equal n m ms (is-equal m e)
-  goes-nowhere (m ∷ ms) (suc i) h e a =
-      insert-higher n m ms (later-higher m ms i (omega arith) a.0 e)
-      ∙ ap (λ r. m ∷ r) (goes-nowhere ms i (omega arith) e a.1)
+  goes_nowhere : (ns : List Name) (i : ℕ) → i < length ns → get_or ns i [] ≡ n → Ascending ns → insert n ns ≡ ns
+  goes_nowhere [] i h e a = absurd (omega arith)
+  goes_nowhere (m ∷ ms) zero h e a = insert_equal n m ms (is_equal m e)
+  goes_nowhere (m ∷ ms) (suc i) h e a =
+      insert_higher n m ms (later_higher m ms i (omega arith) a.0 e)
+      ∙ ap (λ r. m ∷ r) (goes_nowhere ms i (omega arith) e a.1)
 
   is_one : (ns : List Name) (i : ℕ) → i < length ns → get_or ns i [] ≡ n → member n ns ≡ true
   unfolding member
   is_one [] i h e = absurd (omega arith)
-  is_one (m ∷ ms) zero h e = rw (same-equal n m (is-equal m e))
+  is_one (m ∷ ms) zero h e = rw (same_equal n m (is_equal m e))
   is_one (m ∷ ms) (suc i) h e = go (same n m) (is_one ms i (omega arith) e)
     where
       go : (t : Bool) → member n ms ≡ true → pick t true (member n ms) ≡ true
@@ -97,33 +97,33 @@ module _ (n : Name) where
   is_at : (ns : List Name) (i : ℕ) → i < length ns → get_or ns i [] ≡ n → Ascending ns → place n ns ≡ i
   unfolding place
   is_at [] i h e a = absurd (omega arith)
-  is_at (m ∷ ms) zero h e a = rw (same-equal n m (is-equal m e))
+  is_at (m ∷ ms) zero h e a = rw (same_equal n m (is_equal m e))
   is_at (m ∷ ms) (suc i) h e a =
-      rw (not-same-higher n m (later-higher m ms i (omega arith) a.0 e)) (ap suc (is_at ms i (omega arith) e a.1))
+      rw (not_same_higher n m (later_higher m ms i (omega arith) a.0 e)) (ap suc (is_at ms i (omega arith) e a.1))
 
   module _ (ns : List Name) (i : ℕ) (s : Stands n ns i) where
-    pub stands-member : member n ns ≡ true
-    stands-member = is_one ns i s.inside s.named
+    pub stands_member : member n ns ≡ true
+    stands_member = is_one ns i s.inside s.named
 
-    pub stands-insert : Ascending ns → insert n ns ≡ ns
-    stands-insert = goes-nowhere ns i s.inside s.named
+    pub stands_insert : Ascending ns → insert n ns ≡ ns
+    stands_insert = goes_nowhere ns i s.inside s.named
 
-    pub stands-place : Ascending ns → place n ns ≡ i
-    stands-place = is_at ns i s.inside s.named
+    pub stands_place : Ascending ns → place n ns ≡ i
+    stands_place = is_at ns i s.inside s.named
 
 -- ## How many
 
-insert-shorter : (n : Name) (ns : List Name) → length (insert n ns) ≤ suc (length ns)
+insert_shorter : (n : Name) (ns : List Name) → length (insert n ns) ≤ suc (length ns)
 unfolding insert
-insert-shorter n [] = omega arith
-insert-shorter n (m ∷ ms) = go (order n m) refl (insert-shorter n ms)
+insert_shorter n [] = omega arith
+insert_shorter n (m ∷ ms) = go (order n m) refl (insert_shorter n ms)
   where
     go : (o : Order) → order n m ≡ o → length (insert n ms) ≤ suc (length ms) → length (insert n (m ∷ ms)) ≤ suc (suc (length ms))
-    go lower q i = rw (insert-lower n m ms q) (omega arith)
-    go equal q i = rw (insert-equal n m ms q) (omega arith)
-    go higher q i = rw (insert-higher n m ms q) (omega arith)
+    go lower q i = rw (insert_lower n m ms q) (omega arith)
+    go equal q i = rw (insert_equal n m ms q) (omega arith)
+    go higher q i = rw (insert_higher n m ms q) (omega arith)
 
-pub sorted-shorter : (ns : List Name) → length (sorted ns) ≤ length ns
+pub sorted_shorter : (ns : List Name) → length (sorted ns) ≤ length ns
 unfolding sorted
-sorted-shorter [] = omega arith
-sorted-shorter (n ∷ ns) = omega (arith, insert-shorter n (sorted ns), sorted-shorter ns)
+sorted_shorter [] = omega arith
+sorted_shorter (n ∷ ns) = omega (arith, insert_shorter n (sorted ns), sorted_shorter ns)

@@ -5,14 +5,14 @@ use Rattle.notation.specs.Compile.{lower, equal, higher}
 use Rattle.index.specs.Listed.{order_of}
 
 module _ {k : ℕ} where
-  pub is-lower : k ≡ 0 → order_of k ≡ lower
+  pub is_lower : k ≡ 0 → order_of k ≡ lower
   unfolding order_of
-  is-lower e = rw e
+  is_lower e = rw e
 
-  pub is-equal : k ≡ 1 → order_of k ≡ equal
+  pub is_equal : k ≡ 1 → order_of k ≡ equal
   unfolding order_of
-  is-equal e = rw e
+  is_equal e = rw e
 
-  pub is-higher : k ≤ 2 → (k ≡ 0 → ⊥) → (k ≡ 1 → ⊥) → order_of k ≡ higher
+  pub is_higher : k ≤ 2 → (k ≡ 0 → ⊥) → (k ≡ 1 → ⊥) → order_of k ≡ higher
   unfolding order_of
-  is-higher h e f = rw (ne_eqb k 0 e, ne_eqb k 1 f)
+  is_higher h e f = rw (ne_eqb k 0 e, ne_eqb k 1 f)

@@ -12,15 +12,15 @@ use Rattle.index.specs.Listed.{names_at, put_in}
 -- ## Through a function
 
 module _ {A B : Type 0} (f : A → B) where
-  map-take : (i : ℕ) (l : List A) → map f (take i l) ≡ take i (map f l)
-  map-take zero l = refl
-  map-take (suc i) [] = refl
-  map-take (suc i) (x ∷ l) = ap (λ r. f x ∷ r) (map-take i l)
+  map_take : (i : ℕ) (l : List A) → map f (take i l) ≡ take i (map f l)
+  map_take zero l = refl
+  map_take (suc i) [] = refl
+  map_take (suc i) (x ∷ l) = ap (λ r. f x ∷ r) (map_take i l)
 
-  map-drop : (i : ℕ) (l : List A) → map f (drop i l) ≡ drop i (map f l)
-  map-drop zero l = refl
-  map-drop (suc i) [] = refl
-  map-drop (suc i) (x ∷ l) = map-drop i l
+  map_drop : (i : ℕ) (l : List A) → map f (drop i l) ≡ drop i (map f l)
+  map_drop zero l = refl
+  map_drop (suc i) [] = refl
+  map_drop (suc i) (x ∷ l) = map_drop i l
 
   map_at : (l : List A) (i : ℕ) (d : A) (e : B) → i < length l → get_or (map f l) i e ≡ f (get_or l i d)
   map_at [] i d e h = absurd (omega arith)
@@ -30,11 +30,11 @@ module _ {A B : Type 0} (f : A → B) where
 -- ## The names
 
 module _ (text at : List ℕ) (n : ℕ) (fits : n ≤ length at) where
-  pub names-length : length (names_at text at n) ≡ n
-  names-length = length-map (take n at) (name_at text) ∙ length-take-le n at fits
+  pub names_length : length (names_at text at n) ≡ n
+  names_length = length-map (take n at) (name_at text) ∙ length-take-le n at fits
 
-  pub names-at : (i : ℕ) → i < n → get_or (names_at text at n) i [] ≡ name_at text (get_or at i 0)
-  names-at i h =
+  pub names_at_lem : (i : ℕ) → i < n → get_or (names_at text at n) i [] ≡ name_at text (get_or at i 0)
+  names_at_lem i h =
       map_at (name_at text) (take n at) i 0 [] (omega (arith, length-take-le n at fits)) ∙ ap (name_at text) (get_or-take n at i 0 h)
 
 -- ## One more place
@@ -46,18 +46,18 @@ module _ (at : List ℕ) (count index p : ℕ) (h : index ≤ count) (k : count 
   front : List ℕ
   front = take index at ++ p ∷ later
 
-  later-length : length later ≡ count - index
+  later_length : length later ≡ count - index
   unfolding later
-  later-length = length-take-le (count - index) (drop index at) (omega (arith, length-drop index at))
+  later_length = length-take-le (count - index) (drop index at) (omega (arith, length-drop index at))
 
   front_length : length front ≡ count + 1
   unfolding front
   front_length =
-      omega (arith, length-append (take index at) (p ∷ later), length-take-le index at (omega arith), later-length)
+      omega (arith, length-append (take index at) (p ∷ later), length-take-le index at (omega arith), later_length)
 
-  in-front : put_in at count index p ≡ front ++ drop (count + 1) at
+  in_front : put_in at count index p ≡ front ++ drop (count + 1) at
   unfolding front later
-  in-front = sym (append_assoc (take index at) (p ∷ later) (drop (count + 1) at))
+  in_front = sym (append_assoc (take index at) (p ∷ later) (drop (count + 1) at))
 
   is_later : drop index (take count at) ≡ later
   unfolding later
@@ -70,20 +70,20 @@ module _ (at : List ℕ) (count index p : ℕ) (h : index ≤ count) (k : count 
   pub put_front : take (count + 1) (put_in at count index p) ≡ take index (take count at) ++ p ∷ drop index (take count at)
   unfolding front
   put_front =
-      ap (take (count + 1)) in-front ∙ take_at front (drop (count + 1) at) (count + 1) front_length
+      ap (take (count + 1)) in_front ∙ take_at front (drop (count + 1) at) (count + 1) front_length
       ∙ rw (take-take index count at h, is_later)
 
   pub put_rest : drop (count + 1) (put_in at count index p) ≡ drop (count + 1) at
-  put_rest = ap (drop (count + 1)) in-front ∙ drop_at front (drop (count + 1) at) (count + 1) front_length
+  put_rest = ap (drop (count + 1)) in_front ∙ drop_at front (drop (count + 1) at) (count + 1) front_length
 
-  pub put-length : length (put_in at count index p) ≡ length at
-  put-length =
-      ap length in-front
+  pub put_length : length (put_in at count index p) ≡ length at
+  put_length =
+      ap length in_front
       ∙ omega (arith, length-append front (drop (count + 1) at), front_length, length-drop (count + 1) at)
 
-  pub put-names : (text : List ℕ)
+  pub put_names : (text : List ℕ)
       → names_at text (put_in at count index p) (count + 1) ≡ take index (names_at text at count) ++ name_at text p ∷ drop index (names_at text at count)
-  put-names text =
+  put_names text =
       let f = name_at text in
       ap (map f) put_front ∙ map-append f (take index (take count at)) (p ∷ drop index (take count at))
-      ∙ rw (map-take f index (take count at), map-drop f index (take count at))
+      ∙ rw (map_take f index (take count at), map_drop f index (take count at))

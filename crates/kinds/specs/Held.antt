@@ -4,8 +4,8 @@ use Rattle.std.proofs.Common.{arith}
 use Rattle.meaning.specs.State.{Env}
 use Rattle.kinds.specs.declared.state.State.{State}
 
-abbrev pub envOf : State → Env
-envOf s = record { truths = s.truths; floors = s.floors }
+abbrev pub env_of : State → Env
+env_of s = record { truths = s.truths; floors = s.floors }
 
 -- A table from which the first `held` symbols are hidden.
 abbrev pub hiding : Env → (table held : ℕ) → Env

@@ -24,33 +24,33 @@ abbrev pub given_of : Bool → (at held steps depth : ℕ) → Outcome
 given_of ok at held steps depth = pick ok (Passed at held steps depth) (Failed steps depth)
 
 -- Not: passed becomes failed, failed passes where it began.
-abbrev pub negatedOf : (at held : ℕ) → Outcome → Outcome
-negatedOf at held (Passed a h s d) = Failed s d
-negatedOf at held (Failed s d) = Passed at held s d
-negatedOf at held (Refused n p s d) = Refused n p s d
+abbrev pub negated_of : (at held : ℕ) → Outcome → Outcome
+negated_of at held (Passed a h s d) = Failed s d
+negated_of at held (Failed s d) = Passed at held s d
+negated_of at held (Refused n p s d) = Refused n p s d
 
 -- On: what was stored inside is dropped.
-abbrev pub restoredOf : (held : ℕ) → Outcome → Outcome
-restoredOf held (Passed a h s d) = Passed a held s d
-restoredOf held (Failed s d) = Failed s d
-restoredOf held (Refused n p s d) = Refused n p s d
+abbrev pub restored_of : (held : ℕ) → Outcome → Outcome
+restored_of held (Passed a h s d) = Passed a held s d
+restored_of held (Failed s d) = Failed s d
+restored_of held (Refused n p s d) = Refused n p s d
 
 -- Is and Isa: what was stored inside is dropped, and a test on the end decides.
-abbrev pub comparedOf : (ℕ → Bool) → (held : ℕ) → Outcome → Outcome
-comparedOf test held (Passed a h s d) = given_of (test a) a held s d
-comparedOf test held (Failed s d) = Failed s d
-comparedOf test held (Refused n p s d) = Refused n p s d
+abbrev pub compared_of : (ℕ → Bool) → (held : ℕ) → Outcome → Outcome
+compared_of test held (Passed a h s d) = given_of (test a) a held s d
+compared_of test held (Failed s d) = Failed s d
+compared_of test held (Refused n p s d) = Refused n p s d
 
 -- Def: what was stored inside is dropped, and the name is stored if there is room. The outcome, and the slots then.
-abbrev pub definedOf : (room table at held : ℕ) → Outcome → Outcome
-definedOf room table at held (Passed a h s d) = pick (ltb held room) (Passed a (held + 1) s d) (Refused 14 at s d)
-definedOf room table at held (Failed s d) = Failed s d
-definedOf room table at held (Refused n p s d) = Refused n p s d
+abbrev pub defined_of : (room table at held : ℕ) → Outcome → Outcome
+defined_of room table at held (Passed a h s d) = pick (ltb held room) (Passed a (held + 1) s d) (Refused 14 at s d)
+defined_of room table at held (Failed s d) = Failed s d
+defined_of room table at held (Refused n p s d) = Refused n p s d
 
-abbrev pub definedIn : (room table at held : ℕ) → Outcome → List ℕ → List ℕ
-definedIn room table at held (Passed a h s d) slots = pick (ltb held room) (putting slots held table at a) slots
-definedIn room table at held (Failed s d) slots = slots
-definedIn room table at held (Refused n p s d) slots = slots
+abbrev pub defined_in : (room table at held : ℕ) → Outcome → List ℕ → List ℕ
+defined_in room table at held (Passed a h s d) slots = pick (ltb held room) (putting slots held table at a) slots
+defined_in room table at held (Failed s d) slots = slots
+defined_in room table at held (Refused n p s d) slots = slots
 
 -- Block and Local: of what was stored inside, the table's own is dropped.
 abbrev pub ClosedOf : (table held : ℕ) → Outcome → (before after : List ℕ) → Outcome → Type 0

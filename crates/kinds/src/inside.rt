@@ -5,7 +5,7 @@ ghost use Rattle.meaning.specs.Inside.{Part};
 ghost use Rattle.parts.specs.Packed.{opened_of};
 ghost use Rattle.parts.specs.Slots.{symbol_at, Parts};
 ghost use Rattle.parts.specs.Seen.{listed};
-ghost use Rattle.kinds.specs.Turned.{Bounds, given_of, negatedOf, restoredOf, comparedOf, definedOf, definedIn, Lent, ClosedOf};
+ghost use Rattle.kinds.specs.Turned.{Bounds, given_of, negated_of, restored_of, compared_of, defined_of, defined_in, Lent, ClosedOf};
 
 use parts::bytes::begins_with;
 use parts::compare::{is_listed, is_symbol};
@@ -46,7 +46,7 @@ pub fn again(
 // Not: passed becomes failed, failed passes where it began.
 pub fn negated(at: u32, held: u32, r: u64) -> u64
     requires { (at ≤ 65535) × (held ≤ 256) × Bounds 65535 0 0 256 (opened_of r) }
-    ensures { opened_of result ≡ negatedOf at held (opened_of r) }
+    ensures { opened_of result ≡ negated_of at held (opened_of r) }
 {
     let inner = opened(r);
     match inner {
@@ -69,7 +69,7 @@ pub fn negated(at: u32, held: u32, r: u64) -> u64
 // On: what was stored inside is dropped.
 pub fn restored(held: u32, r: u64) -> u64
     requires { (held ≤ 256) × Bounds 65535 0 0 256 (opened_of r) }
-    ensures { opened_of result ≡ restoredOf held (opened_of r) }
+    ensures { opened_of result ≡ restored_of held (opened_of r) }
 {
     let inner = opened(r);
     let Outcome::Passed {
@@ -87,7 +87,7 @@ pub fn restored(held: u32, r: u64) -> u64
 // Is: what was stored inside is dropped, and the bytes that were consumed must be those of the symbol of a number.
 pub fn is_latest(input: &[u8], slots: &[u32], number: u32, at: u32, held: u32, r: u64) -> u64
     requires { (length input.now ≤ 65535) × (number ≤ 255) × (number * 3 + 3 ≤ length slots.now) × Part (length input.now) (symbol_at slots.now number) × (held ≤ 256) × Bounds (length input.now) at 0 256 (opened_of r) }
-    ensures { opened_of result ≡ comparedOf (λ end. same (part input.now at end) (text input.now (symbol_at slots.now number))) held (opened_of r) }
+    ensures { opened_of result ≡ compared_of (λ end. same (part input.now at end) (text input.now (symbol_at slots.now number))) held (opened_of r) }
 {
     let inner = opened(r);
     let Outcome::Passed {
@@ -106,7 +106,7 @@ pub fn is_latest(input: &[u8], slots: &[u32], number: u32, at: u32, held: u32, r
 // Isa: the same with some symbol of the table's list.
 pub fn is_some(input: &[u8], slots: &[u32], table: u32, low: u32, at: u32, held: u32, r: u64) -> u64
     requires { (length input.now ≤ 65535) × (held ≤ 256) × (held * 3 ≤ length slots.now) × Parts (length input.now) held slots.now × Bounds (length input.now) at 0 256 (opened_of r) }
-    ensures { opened_of result ≡ comparedOf (λ end. among input.now (part input.now at end) (listed table low slots.now held)) held (opened_of r) }
+    ensures { opened_of result ≡ compared_of (λ end. among input.now (part input.now at end) (listed table low slots.now held)) held (opened_of r) }
 {
     let inner = opened(r);
     let Outcome::Passed {
@@ -125,7 +125,7 @@ pub fn is_some(input: &[u8], slots: &[u32], table: u32, low: u32, at: u32, held:
 // Def: what was stored inside is dropped, and the name is stored if there is room.
 pub fn defined(room: u32, slots: &mut [u32], table: u32, at: u32, held: u32, r: u64) -> u64
     requires { (room ≤ 256) × (room * 3 ≤ length slots.old) × (at ≤ 65535) × Bounds 65535 0 0 256 (opened_of r) }
-    ensures { (opened_of result ≡ definedOf room table at held (opened_of r)) × (slots.new ≡ definedIn room table at held (opened_of r) slots.old) }
+    ensures { (opened_of result ≡ defined_of room table at held (opened_of r)) × (slots.new ≡ defined_in room table at held (opened_of r) slots.old) }
 {
     let inner = opened(r);
     let Outcome::Passed {

@@ -1,6 +1,6 @@
 // What holds while an expression runs and is put back when it is left: it goes by value, down only.
 ghost use Rattle.std.specs.Prelude.{◌≡◌, true, ◌≤◌, ◌<◌, length, get_or};
-ghost use Rattle.kinds.specs.Held.{envOf, hiding};
+ghost use Rattle.kinds.specs.Held.{env_of, hiding};
 ghost use Rattle.meaning.specs.State.{switch};
 
 // The truth of each condition; for each table how many symbols were held when its innermost Local was entered.
@@ -13,7 +13,7 @@ pub struct State {
 // The truth of a condition.
 pub fn truth(state: State, condition: u32) -> bool
     requires { condition < 8 }
-    ensures { result ≡ get_or (envOf state).truths condition true }
+    ensures { result ≡ get_or (env_of state).truths condition true }
 {
     let truths = state.truths;
     truths[condition as usize]
@@ -22,7 +22,7 @@ pub fn truth(state: State, condition: u32) -> bool
 // How many symbols are hidden from a table.
 pub fn floor(state: State, table: u32) -> u32
     requires { table < 8 }
-    ensures { result ≡ get_or (envOf state).floors table 0 }
+    ensures { result ≡ get_or (env_of state).floors table 0 }
 {
     let floors = state.floors;
     floors[table as usize] as u32
@@ -31,7 +31,7 @@ pub fn floor(state: State, table: u32) -> u32
 // Inside an On the condition has the named truth.
 pub fn with_truth(state: State, condition: u32, truth: bool) -> State
     requires { condition < 8 }
-    ensures { envOf result ≡ switch (envOf state) condition truth }
+    ensures { env_of result ≡ switch (env_of state) condition truth }
 {
     let mut inside = state;
     inside.truths[condition as usize] = truth;
@@ -41,7 +41,7 @@ pub fn with_truth(state: State, condition: u32, truth: bool) -> State
 // Inside a Local everything held so far is hidden from the table.
 pub fn with_floor(state: State, table: u32, held: u32) -> State
     requires { (table < 8) × (held ≤ 256) }
-    ensures { envOf result ≡ hiding (envOf state) table held }
+    ensures { env_of result ≡ hiding (env_of state) table held }
 {
     let mut inside = state;
     inside.floors[table as usize] = held as u16;

@@ -10,18 +10,18 @@ use borrow.Author.Tests.{eqb-true, ne_eqb}
 use Rattle.notation.specs.Lexer.{piece, past, unclosed, gap, token, lexemes}
 use Rattle.lexer.specs.declared.token.Token.{Token}
 use Rattle.lexer.specs.Meant.{meant, ahead, Lexed}
-use Rattle.lexer.specs.Tokens.{simple, noToken, given, Begins}
+use Rattle.lexer.specs.Tokens.{simple, no_token, given, Begins}
 use Rattle.lexer.proofs.PlaceLaws.{at_place}
-use Rattle.lexer.proofs.LexemeLaws.{lexemes-end, lexemes-open, lexemes-no, lexemes-token, lexemes-skip}
-use Rattle.lexer.proofs.TokenLaws.{byte-here}
+use Rattle.lexer.proofs.LexemeLaws.{lexemes_end, lexemes_open, lexemes_no, lexemes_token, lexemes_skip}
+use Rattle.lexer.proofs.TokenLaws.{byte_here}
 
 module _ (t : List ℕ) (at : ℕ) where
   -- A comment is open.
-  pub lexed-open : (n : ℕ) {r : Token} → r ≡ noToken n → gap (drop at t) ≡ unclosed (drop n t) → at ≤ n → n ≤ length t → Lexed t at r
+  pub lexed_open : (n : ℕ) {r : Token} → r ≡ no_token n → gap (drop at t) ≡ unclosed (drop n t) → at ≤ n → n ≤ length t → Lexed t at r
   unfolding ahead meant
-  lexed-open n g e l h =
+  lexed_open n g e l h =
       rw g (record {
-        goes = lexemes-open (drop at t) e;
+        goes = lexemes_open (drop at t) e;
         numbers = omega arith;
         inside = h;
         onward = λ _. l;
@@ -29,17 +29,17 @@ module _ (t : List ℕ) (at : ℕ) where
         within = λ a b. omega arith;
         ends = λ a. omega arith;
         named = λ a b. absurd (omega arith);
-        name-inside = λ a b. omega arith;
+        name_inside = λ a b. omega arith;
         parted = λ a. absurd (omega arith);
       })
 
   module _ (n : ℕ) (e : gap (drop at t) ≡ past (drop n t)) where
     -- The text ends.
-    pub lexed-end : {r : Token} → r ≡ simple 0 0 (length t) (length t) → length t ≤ n → Lexed t at r
+    pub lexed_end : {r : Token} → r ≡ simple 0 0 (length t) (length t) → length t ≤ n → Lexed t at r
     unfolding ahead
-    lexed-end g h =
+    lexed_end g h =
         rw g (record {
-          goes = lexemes-end (drop at t) (e ∙ rw (drop_of_length-le t h));
+          goes = lexemes_end (drop at t) (e ∙ rw (drop_of_length-le t h));
           numbers = omega arith;
           inside = omega arith;
           onward = λ l. l;
@@ -47,7 +47,7 @@ module _ (t : List ℕ) (at : ℕ) where
           within = λ a b. omega arith;
           ends = λ _. refl;
           named = λ a b. absurd (omega arith);
-          name-inside = λ a b. omega arith;
+          name_inside = λ a b. omega arith;
           parted = λ a. absurd (omega arith);
         })
 
@@ -61,19 +61,19 @@ module _ (t : List ℕ) (at : ℕ) where
       goes_so = go (eqb r.kind 11) refl
         where
           here : token (get_or t n 0) (drop (n + 1) t) ≡ given t r b.rest
-          here = sym (byte-here t n h) ∙ b.goes
+          here = sym (byte_here t n h) ∙ b.goes
 
           go : (z : Bool) → eqb r.kind 11 ≡ z → lexemes (drop at t) ≡ ahead t r
           go true z =
               let k : r.kind ≡ 11 = eqb-true r.kind 11 z in
-              lexemes-no (drop at t) front (here ∙ rw k) ∙ rw (k, b.here, at_place t n h)
+              lexemes_no (drop at t) front (here ∙ rw k) ∙ rw (k, b.here, at_place t n h)
           go false z =
               let f : token (get_or t n 0) (drop (n + 1) t) ≡ piece (meant t r) b.rest = here ∙ rw z in
-              lexemes-token (drop at t) front f
-              ∙ rw (lexemes-skip b.rest (drop r.next t) b.skips, ne_eqb r.kind 0 (λ y. omega (arith, b.one)), z, b.here, at_place t n h)
+              lexemes_token (drop at t) front f
+              ∙ rw (lexemes_skip b.rest (drop r.next t) b.skips, ne_eqb r.kind 0 (λ y. omega (arith, b.one)), z, b.here, at_place t n h)
 
-      pub lexed-token : Lexed t at r
-      lexed-token =
+      pub lexed_token : Lexed t at r
+      lexed_token =
           let s = b.here in
           record {
             goes = goes_so;
@@ -84,6 +84,6 @@ module _ (t : List ℕ) (at : ℕ) where
             within = λ _ k. b.within k;
             ends = λ k. omega (arith, b.one);
             named = λ _ k. b.named k ∙ rw s;
-            name-inside = λ _ k. b.name-inside k;
+            name_inside = λ _ k. b.name_inside k;
             parted = rw s b.parted;
           }

@@ -3,6 +3,6 @@ use mathlib.Core.Path.{◌≡◌, refl}
 use mathlib.Core.Bool.{Bool, true, false}
 use Rattle.format.specs.Reading.{pick}
 
-pub pick-itself : (t : Bool) → t ≡ pick t true false
-pick-itself true = refl
-pick-itself false = refl
+pub pick_itself : (t : Bool) → t ≡ pick t true false
+pick_itself true = refl
+pick_itself false = refl

@@ -15,8 +15,8 @@ module _ (t : List ℕ) (i : ℕ) where
   at_place h = rw (drop-cons t i 0 h, ← add-one i)
 
   -- Where something stands, the place is in the text.
-  pub in-text : (drop i t ≡ [] → ⊥) → i < length t
-  in-text f = go (leb (length t) i) refl
+  pub in_text : (drop i t ≡ [] → ⊥) → i < length t
+  in_text f = go (leb (length t) i) refl
     where
       go : (b : Bool) → leb (length t) i ≡ b → i < length t
       go true l = absurd (f (drop_of_length-le t (leb-true (length t) i l)))

@@ -12,21 +12,21 @@ use Rattle.notation.specs.Bytes.{letter}
 use Rattle.notation.specs.Token.{leaf}
 use Rattle.notation.specs.Tree.{Part, quoted}
 use Rattle.notation.specs.LexicalText.{no_way}
-use Rattle.notation.specs.LexicalGap.{past-again, unclosed-again}
+use Rattle.notation.specs.LexicalGap.{past_again, unclosed_again}
 use Rattle.notation.specs.Token as N
-use Rattle.notation.specs.Lexer.{Piece, piece, no, ◌then◌, past, unclosed, gap, namedHere, fresh, quote, begin, parts, classed, classHere, token}
-use Rattle.notation.specs.LexicalToken.{tokenOf}
-use Rattle.notation.specs.At.{value, name_at, quotedOf, parts_of}
-use Rattle.notation.specs.Places.{nameIn}
+use Rattle.notation.specs.Lexer.{Piece, piece, no, ◌then◌, past, unclosed, gap, named_here, fresh, quote, begin, parts, classed, class_here, token}
+use Rattle.notation.specs.LexicalToken.{token_of}
+use Rattle.notation.specs.At.{value, name_at, quoted_of, parts_of}
+use Rattle.notation.specs.Places.{name_in}
 use Rattle.chars.specs.Meant.{QuoteEnds, ClassEnds}
 use Rattle.chars.specs.declared.written.End.{End}
 use Rattle.chars.specs.declared.written.End.TheVariants.{Behind, Open}
 use Rattle.lexer.specs.declared.token.Token.{Token}
-use Rattle.lexer.specs.Meant.{leafAt, meant, Numbers}
+use Rattle.lexer.specs.Meant.{leaf_at, meant, Numbers}
 use Rattle.lexer.specs.Names.{NameEnds}
-use Rattle.lexer.specs.Tokens.{simple, noToken, ended, given, Begins, Single}
+use Rattle.lexer.specs.Tokens.{simple, no_token, ended, given, Begins, Single}
 use Rattle.lexer.proofs.PlaceLaws.{at_place}
-use Rattle.lexer.proofs.NameLaws.{letter-names, letter-high, behind_more}
+use Rattle.lexer.proofs.NameLaws.{letter_names, letter_high, behind_more}
 
 abbrev Not : ℕ → ℕ → Type 0
 Not b k = b ≡ k → ⊥
@@ -37,10 +37,10 @@ NoSign b =
     (((((((((Unit × Not b 46) × Not b 62) × Not b 40) × Not b 41) × Not b 47) × Not b 38) × Not b 33) × Not b 63) × Not b 42) × Not b 43
 
 -- A class has parts.
-class-parted : (s : List ℕ) {x : N.Token} {r : List ℕ} → classHere s ≡ piece x r → value (parts begin fresh s) ≡ [] → ⊥
-unfolding classHere classed
-class-parted [] e = absurd (no_way (cc))
-class-parted (b ∷ s) {x} {r} e = go (eqb b 94) (parts begin fresh (b ∷ s)) refl refl
+class_parted : (s : List ℕ) {x : N.Token} {r : List ℕ} → class_here s ≡ piece x r → value (parts begin fresh s) ≡ [] → ⊥
+unfolding class_here classed
+class_parted [] e = absurd (no_way (cc))
+class_parted (b ∷ s) {x} {r} e = go (eqb b 94) (parts begin fresh (b ∷ s)) refl refl
   where
     go : (z : Bool) (p : Piece (List Part)) → eqb b 94 ≡ z → parts begin fresh (b ∷ s) ≡ p → value (parts begin fresh (b ∷ s)) ≡ [] → ⊥
     go true p i j k = let y : no ≡ piece x r = rw i at e in no_way (cc)
@@ -50,9 +50,9 @@ class-parted (b ∷ s) {x} {r} e = go (eqb b 94) (parts begin fresh (b ∷ s)) r
 
 module _ (t : List ℕ) (start : ℕ) where
   -- Where no token begins.
-  pub no-token : {r : Token} → r ≡ noToken start → tokenOf (drop start t) ≡ no → Begins t start r
+  pub no_token_lem : {r : Token} → r ≡ no_token start → token_of (drop start t) ≡ no → Begins t start r
   unfolding given
-  no-token e f =
+  no_token_lem e f =
       rw e (record {
         here = refl;
         rest = drop start t;
@@ -63,61 +63,61 @@ module _ (t : List ℕ) (start : ℕ) where
         longer = λ l. omega arith;
         within = λ l. omega arith;
         named = λ l. absurd (omega arith);
-        name-inside = λ l. omega arith;
+        name_inside = λ l. omega arith;
         parted = λ l. absurd (omega arith);
       })
 
   module _ (h : start < length t) where
-    pub byte-here : tokenOf (drop start t) ≡ token (get_or t start 0) (drop (start + 1) t)
-    unfolding tokenOf
-    byte-here = rw (at_place t start h)
+    pub byte_here : token_of (drop start t) ≡ token (get_or t start 0) (drop (start + 1) t)
+    unfolding token_of
+    byte_here = rw (at_place t start h)
 
-    front-named : (get_or t start 0 ≡ 60 → ⊥) → drop start t ≡ nameIn (drop start t)
-    unfolding nameIn
-    front-named f = rw (at_place t start h, ne_eqb (get_or t start 0) 60 f)
+    front_named : (get_or t start 0 ≡ 60 → ⊥) → drop start t ≡ name_in (drop start t)
+    unfolding name_in
+    front_named f = rw (at_place t start h, ne_eqb (get_or t start 0) 60 f)
 
     -- A token that is no operator.
-    simple-begins : (k s next : ℕ) {r : Token} → r ≡ simple k s start next → (1 ≤ k) × (k ≤ 10) × Numbers k s
+    simple_begins : (k s next : ℕ) {r : Token} → r ≡ simple k s start next → (1 ≤ k) × (k ≤ 10) × Numbers k s
         → (s ≡ 3 → parts_of (drop start t) ≡ [] → ⊥) → (get_or t start 0 ≡ 60 → ⊥)
         → (start < next) × (next ≤ length t) → (rest : List ℕ) → gap rest ≡ gap (drop next t)
         → token (get_or t start 0) (drop (start + 1) t) ≡ piece (meant t (simple k s start next)) rest → Begins t start r
     unfolding given
-    simple-begins k s next e n p f l rest x g =
+    simple_begins k s next e n p f l rest x g =
         rw e (record {
           here = refl;
           rest = rest;
           skips = x;
-          goes = byte-here ∙ g ∙ rw (ne_eqb k 11 (λ z. omega arith));
+          goes = byte_here ∙ g ∙ rw (ne_eqb k 11 (λ z. omega arith));
           numbers = n.2;
           one = n.0;
           longer = λ _. l.0;
           within = λ _. l.1;
-          named = λ _. front-named f;
-          name-inside = λ _. omega arith;
+          named = λ _. front_named f;
+          name_inside = λ _. omega arith;
           parted = λ _. p;
         })
 
     -- A token of one byte.
-    pub sign-begins : (b k s : ℕ) {r : Token} → get_or t start 0 ≡ b → r ≡ simple k s start (start + 1) → (1 ≤ k) × (k ≤ 10) × Numbers k s × (s ≡ 3 → ⊥)
+    pub sign_begins : (b k s : ℕ) {r : Token} → get_or t start 0 ≡ b → r ≡ simple k s start (start + 1) → (1 ≤ k) × (k ≤ 10) × Numbers k s × (s ≡ 3 → ⊥)
         → (b ≡ 60 → ⊥) → token b (drop (start + 1) t) ≡ piece (meant t (simple k s start (start + 1))) (drop (start + 1) t) → Begins t start r
-    sign-begins b k s e f n o g =
-        simple-begins k s (start + 1) f (n.0, n.1, n.2) (λ z. absurd (n.3 z)) (λ z. o (sym e ∙ z)) (omega arith) _ refl (ap (λ b. token b (drop (start + 1) t)) e ∙ g)
+    sign_begins b k s e f n o g =
+        simple_begins k s (start + 1) f (n.0, n.1, n.2) (λ z. absurd (n.3 z)) (λ z. o (sym e ∙ z)) (omega arith) _ refl (ap (λ b. token b (drop (start + 1) t)) e ∙ g)
 
     -- A byte that begins no token.
-    pub no_sign : Single (get_or t start 0) → {r : Token} → r ≡ noToken start → NoSign (get_or t start 0)
+    pub no_sign : Single (get_or t start 0) → {r : Token} → r ≡ no_token start → NoSign (get_or t start 0)
         → Begins t start r
     unfolding token
     no_sign o e n =
         let b = get_or t start 0 in
-        no-token e
-        (byte-here
+        no_token_lem e
+        (byte_here
         ∙ rw (
-          o.no-letter,
+          o.no_letter,
           ne_eqb b 46 n.0.0.0.0.0.0.0.0.0.1,
-          ne_eqb b 39 (λ z. o.no-mark (inr z)),
-          ne_eqb b 34 (λ z. o.no-mark (inl z)),
-          ne_eqb b 91 o.no-class,
-          ne_eqb b 60 o.no-operator,
+          ne_eqb b 39 (λ z. o.no_mark (inr z)),
+          ne_eqb b 34 (λ z. o.no_mark (inl z)),
+          ne_eqb b 91 o.no_class,
+          ne_eqb b 60 o.no_operator,
           ne_eqb b 62 n.0.0.0.0.0.0.0.0.1,
           ne_eqb b 40 n.0.0.0.0.0.0.0.1,
           ne_eqb b 41 n.0.0.0.0.0.0.1,
@@ -132,68 +132,68 @@ module _ (t : List ℕ) (start : ℕ) where
     -- ## Names
 
     module _ (f : letter (get_or t start 0) ≡ true) {to : ℕ} (k : NameEnds t (start + 1) to) where
-      name-here : token (get_or t start 0) (drop (start + 1) t) ≡ namedHere (name_at t start) (drop to t) (gap (drop to t))
+      name_here_lem : token (get_or t start 0) (drop (start + 1) t) ≡ named_here (name_at t start) (drop to t) (gap (drop to t))
       unfolding token
-      name-here =
-          rw (f, behind_more (get_or t start 0) (drop (start + 1) t) (letter-names (get_or t start 0) f), k.goes, ← at_place t start h)
+      name_here_lem =
+          rw (f, behind_more (get_or t start 0) (drop (start + 1) t) (letter_names (get_or t start 0) f), k.goes, ← at_place t start h)
 
-      no-operator : get_or t start 0 ≡ 60 → ⊥
-      no-operator z = let l = letter-high (get_or t start 0) f in omega arith
+      no_operator : get_or t start 0 ≡ 60 → ⊥
+      no_operator z = let l = letter_high (get_or t start 0) f in omega arith
 
       skipped : (i : ℕ) → gap (drop to t) ≡ past (drop i t) → gap (drop to t) ≡ gap (drop i t)
-      skipped i e = e ∙ sym (past-again (drop to t) (drop i t) e)
+      skipped i e = e ∙ sym (past_again (drop to t) (drop i t) e)
 
-      pub call-open : {c : ℕ} → gap (drop to t) ≡ unclosed (drop c t) → to ≤ c → c ≤ length t → {r : Token} → r ≡ simple 5 4 start c → Begins t start r
-      unfolding namedHere meant leafAt
-      call-open {c} e l m g =
+      pub call_open : {c : ℕ} → gap (drop to t) ≡ unclosed (drop c t) → to ≤ c → c ≤ length t → {r : Token} → r ≡ simple 5 4 start c → Begins t start r
+      unfolding named_here meant leaf_at
+      call_open {c} e l m g =
           let j = k.onward in
-          simple-begins 5 4 c g (omega arith) (λ z. absurd (omega arith)) no-operator (omega arith) (drop to t) (e ∙ sym (unclosed-again (drop to t) (drop c t) e)) (name-here ∙ rw e)
+          simple_begins 5 4 c g (omega arith) (λ z. absurd (omega arith)) no_operator (omega arith) (drop to t) (e ∙ sym (unclosed_again (drop to t) (drop c t) e)) (name_here_lem ∙ rw e)
 
       module _ {i : ℕ} (e : gap (drop to t) ≡ past (drop i t)) (l : to ≤ i) {r : Token} where
-        pub call-last : length t ≤ i → i ≤ length t → r ≡ simple 5 4 start i → Begins t start r
-        unfolding namedHere meant leafAt
-        call-last m n g =
+        pub call_last : length t ≤ i → i ≤ length t → r ≡ simple 5 4 start i → Begins t start r
+        unfolding named_here meant leaf_at
+        call_last m n g =
             let j = k.onward in
-            simple-begins 5 4 i g (omega arith) (λ z. absurd (omega arith)) no-operator (omega arith) (drop to t) (skipped i e) (name-here ∙ rw (e, drop_of_length-le t m))
+            simple_begins 5 4 i g (omega arith) (λ z. absurd (omega arith)) no_operator (omega arith) (drop to t) (skipped i e) (name_here_lem ∙ rw (e, drop_of_length-le t m))
 
         module _ (m : i < length t) where
-          pub call-here : (get_or t i 0 ≡ 61 → ⊥) → r ≡ simple 5 4 start i → Begins t start r
-          unfolding namedHere meant leafAt
-          call-here n g =
+          pub call_here : (get_or t i 0 ≡ 61 → ⊥) → r ≡ simple 5 4 start i → Begins t start r
+          unfolding named_here meant leaf_at
+          call_here n g =
               let j = k.onward in
-              simple-begins 5 4 i g (omega arith) (λ z. absurd (omega arith)) no-operator (omega arith) (drop to t) (skipped i e)
-              (name-here ∙ rw (e, at_place t i m, ne_eqb (get_or t i 0) 61 n))
+              simple_begins 5 4 i g (omega arith) (λ z. absurd (omega arith)) no_operator (omega arith) (drop to t) (skipped i e)
+              (name_here_lem ∙ rw (e, at_place t i m, ne_eqb (get_or t i 0) 61 n))
 
-          pub head-here : get_or t i 0 ≡ 61 → r ≡ simple 1 0 start (i + 1) → Begins t start r
-          unfolding namedHere meant
-          head-here n g =
+          pub head_here : get_or t i 0 ≡ 61 → r ≡ simple 1 0 start (i + 1) → Begins t start r
+          unfolding named_here meant
+          head_here n g =
               let j = k.onward in
-              simple-begins 1 0 (i + 1) g (omega arith) (λ z. absurd (omega arith)) no-operator (omega arith) _ refl
-              (name-here ∙ rw (e, at_place t i m, eq-eqb (get_or t i 0) 61 n))
+              simple_begins 1 0 (i + 1) g (omega arith) (λ z. absurd (omega arith)) no_operator (omega arith) _ refl
+              (name_here_lem ∙ rw (e, at_place t i m, eq-eqb (get_or t i 0) 61 n))
 
     -- ## Quoted text and classes
 
     module _ (e : (get_or t start 0 ≡ 34) ⊎ (get_or t start 0 ≡ 39)) where
-      quote-here : token (get_or t start 0) (drop (start + 1) t)
+      quote_here : token (get_or t start 0) (drop (start + 1) t)
           ≡ (quote (get_or t start 0) fresh (drop (start + 1) t) then λ x s. piece (leaf (quoted x)) s)
       unfolding token
-      quote-here = ⊎_elim (λ z. rw z) (λ z. rw z) e
+      quote_here = ⊎_elim (λ z. rw z) (λ z. rw z) e
 
-      pub quote-begins : (end : End) → QuoteEnds (get_or t start 0) t (start + 1) end → {r : Token} → r ≡ ended 2 start end → Begins t start r
-      unfolding ended ◌then◌ meant leafAt quotedOf
-      quote-begins Open f g = no-token g (byte-here ∙ quote-here ∙ rw f)
-      quote-begins (Behind n) f g =
-          simple-begins 5 2 n g (omega arith) (λ z. absurd (omega arith)) (λ z. ⊎_elim (λ x. omega arith) (λ x. omega arith) e) (omega arith) _ refl
-          (quote-here ∙ rw (at_place t start h, f.0))
+      pub quote_begins : (end : End) → QuoteEnds (get_or t start 0) t (start + 1) end → {r : Token} → r ≡ ended 2 start end → Begins t start r
+      unfolding ended ◌then◌ meant leaf_at quoted_of
+      quote_begins Open f g = no_token_lem g (byte_here ∙ quote_here ∙ rw f)
+      quote_begins (Behind n) f g =
+          simple_begins 5 2 n g (omega arith) (λ z. absurd (omega arith)) (λ z. ⊎_elim (λ x. omega arith) (λ x. omega arith) e) (omega arith) _ refl
+          (quote_here ∙ rw (at_place t start h, f.0))
 
     module _ (e : get_or t start 0 ≡ 91) where
-      class-byte : token (get_or t start 0) (drop (start + 1) t) ≡ classHere (drop (start + 1) t)
+      class_byte : token (get_or t start 0) (drop (start + 1) t) ≡ class_here (drop (start + 1) t)
       unfolding token
-      class-byte = rw e
+      class_byte = rw e
 
-      pub class-begins : (end : End) → ClassEnds t (start + 1) end → {r : Token} → r ≡ ended 3 start end → Begins t start r
-      unfolding ended meant leafAt parts_of
-      class-begins Open f g = no-token g (byte-here ∙ class-byte ∙ f)
-      class-begins (Behind n) f g =
-          simple-begins 5 3 n g (omega arith) (λ _. rw (at_place t start h) (class-parted (drop (start + 1) t) f.0)) (λ z. omega arith) (omega arith) _ refl
-          (class-byte ∙ rw (at_place t start h) f.0)
+      pub class_begins : (end : End) → ClassEnds t (start + 1) end → {r : Token} → r ≡ ended 3 start end → Begins t start r
+      unfolding ended meant leaf_at parts_of
+      class_begins Open f g = no_token_lem g (byte_here ∙ class_byte ∙ f)
+      class_begins (Behind n) f g =
+          simple_begins 5 3 n g (omega arith) (λ _. rw (at_place t start h) (class_parted (drop (start + 1) t) f.0)) (λ z. omega arith) (omega arith) _ refl
+          (class_byte ∙ rw (at_place t start h) f.0)

@@ -1,23 +1,23 @@
 -- What the code's numbers in a gap stand for, and what is promised of a gap.
 use Rattle.std.specs.Prelude.{ℕ, ◌+◌, ◌≤◌, ◌≡◌, List, ◌∷◌, eqb, drop, length}
 use Rattle.format.specs.Reading.{pick}
-use Rattle.notation.specs.Lexer.{Inside, outside, in-line, opening, in_block, starred, Skipped, past, unclosed, skip, gap}
+use Rattle.notation.specs.Lexer.{Inside, outside, in_line, opening, in_block, starred, Skipped, past, unclosed, skip, gap}
 use Rattle.lexer.specs.declared.gap.Gap.{Gap}
 use Rattle.lexer.specs.declared.gap.Gap.TheVariants.{At, Open}
 
 -- Where in a gap: 0 outside a comment, 1 in a line, 2 before the `*` of an opening, 3 in a block, 4 behind a `*` in a block, whose `/*` is at the
 -- front of `comment`.
-unfoldable pub insideOf : ℕ → (comment : List ℕ) → Inside
-insideOf n c =
-    pick (eqb n 0) outside (pick (eqb n 1) in-line (pick (eqb n 2) (opening c) (pick (eqb n 3) (in_block c) (starred c))))
+unfoldable pub inside_of : ℕ → (comment : List ℕ) → Inside
+inside_of n c =
+    pick (eqb n 0) outside (pick (eqb n 1) in_line (pick (eqb n 2) (opening c) (pick (eqb n 3) (in_block c) (starred c))))
 
 -- What a step says: 5 that the gap ends here, else where the next byte stands; 2 that a block comment begins here.
 unfoldable pub moved : ℕ → (comment here next : List ℕ) → Skipped
-moved n c here next = pick (eqb n 5) (past here) (skip (insideOf n (pick (eqb n 2) here c)) next)
+moved n c here next = pick (eqb n 5) (past here) (skip (inside_of n (pick (eqb n 2) here c)) next)
 
 -- What is promised of a step from a place.
 pub record Stepped (text : List ℕ) (i inside r : ℕ) : Type 0 where
-  pub goes : (c : List ℕ) → skip (insideOf inside c) (drop i text) ≡ moved r c (drop i text) (drop (i + 1) text)
+  pub goes : (c : List ℕ) → skip (inside_of inside c) (drop i text) ≡ moved r c (drop i text) (drop (i + 1) text)
   pub small : r ≤ 5
 
 -- A place further on, with no byte b between.
@@ -28,7 +28,7 @@ pub record Without (text : List ℕ) (b i r : ℕ) : Type 0 where
 
 -- A place further on in a gap, from which on it is skipped as from here.
 pub record Further (text : List ℕ) (inside i r : ℕ) : Type 0 where
-  pub goes : (c : List ℕ) → skip (insideOf inside c) (drop i text) ≡ skip (insideOf inside c) (drop r text)
+  pub goes : (c : List ℕ) → skip (inside_of inside c) (drop i text) ≡ skip (inside_of inside c) (drop r text)
   pub onward : i ≤ r
   pub within : i ≤ length text → r ≤ length text
 

@@ -5,15 +5,15 @@ use Rattle.notation.specs.Tree.{Leaf, any, quoted, class, call, query, match, is
 use Rattle.notation.specs.Token.{head, leaf, opens, closes, left, right, slash, before, after, bad, Lexeme}
 use Rattle.notation.specs.Token as N
 use Rattle.notation.specs.Lexer.{lexemes}
-use Rattle.notation.specs.At.{name_at, quotedOf, parts_of, class_of}
-use Rattle.notation.specs.Places.{nameIn}
+use Rattle.notation.specs.At.{name_at, quoted_of, parts_of, class_of}
+use Rattle.notation.specs.Places.{name_in}
 use Rattle.lexer.specs.declared.token.Token.{Token}
 
 -- What holds no expression, what opens an operator, and a suffix, by the number of the symbol.
-unfoldable pub leafAt : List ℕ → Token → Leaf
-leafAt text t =
+unfoldable pub leaf_at : List ℕ → Token → Leaf
+leaf_at text t =
     pick (eqb t.symbol 1) any
-    (pick (eqb t.symbol 2) (quoted (quotedOf (drop t.start text)))
+    (pick (eqb t.symbol 2) (quoted (quoted_of (drop t.start text)))
     (pick (eqb t.symbol 3) (class_of (parts_of (drop t.start text)))
     (pick (eqb t.symbol 4) (call (name_at text t.name))
     (pick (eqb t.symbol 5) (query match (name_at text t.name))
@@ -21,14 +21,14 @@ leafAt text t =
     (pick (eqb t.symbol 7) (query isa (name_at text t.name))
     (pick (eqb t.symbol 8) (query exists (name_at text t.name)) (if (name_at text t.name) t.truth))))))))
 
-unfoldable pub openerAt : List ℕ → Token → Opener
-openerAt text t =
+unfoldable pub opener_at : List ℕ → Token → Opener
+opener_at text t =
     pick (eqb t.symbol 10) (def (name_at text t.name))
     (pick (eqb t.symbol 11) (block (name_at text t.name))
     (pick (eqb t.symbol 12) (local (name_at text t.name)) (on (name_at text t.name) t.truth)))
 
-unfoldable pub suffixOf : ℕ → Suffix
-suffixOf n = pick (eqb n 17) option (pick (eqb n 18) star plus)
+unfoldable pub suffix_of : ℕ → Suffix
+suffix_of n = pick (eqb n 17) option (pick (eqb n 18) star plus)
 
 -- The token by its kind.
 unfoldable pub meant : List ℕ → Token → N.Token
@@ -37,11 +37,11 @@ meant text t =
     (pick (eqb t.kind 2) closes
     (pick (eqb t.kind 3) right
     (pick (eqb t.kind 4) slash
-    (pick (eqb t.kind 5) (leaf (leafAt text t))
-    (pick (eqb t.kind 6) (opens (openerAt text t))
+    (pick (eqb t.kind 5) (leaf (leaf_at text t))
+    (pick (eqb t.kind 6) (opens (opener_at text t))
     (pick (eqb t.kind 7) left
     (pick (eqb t.kind 8) (before and)
-    (pick (eqb t.kind 9) (before not) (pick (eqb t.kind 10) (after (suffixOf t.symbol)) bad)))))))))
+    (pick (eqb t.kind 9) (before not) (pick (eqb t.kind 10) (after (suffix_of t.symbol)) bad)))))))))
 
 abbrev pub placed : List ℕ → Token → Lexeme
 placed text t = record { here = drop t.start text; token = meant text t }
@@ -66,6 +66,6 @@ pub record Lexed (text : List ℕ) (at : ℕ) (t : Token) : Type 0 where
   pub longer : 1 ≤ t.kind → t.kind ≤ 10 → t.start < t.next
   pub within : 1 ≤ t.kind → t.kind ≤ 10 → t.next ≤ length text
   pub ends : t.kind ≡ 0 → t.start ≡ length text
-  pub named : 1 ≤ t.kind → t.kind ≤ 10 → drop t.name text ≡ nameIn (drop t.start text)
-  pub name-inside : 1 ≤ t.kind → t.kind ≤ 10 → t.name ≤ length text
+  pub named : 1 ≤ t.kind → t.kind ≤ 10 → drop t.name text ≡ name_in (drop t.start text)
+  pub name_inside : 1 ≤ t.kind → t.kind ≤ 10 → t.name ≤ length text
   pub parted : t.kind ≡ 5 → t.symbol ≡ 3 → parts_of (drop t.start text) ≡ [] → ⊥

@@ -1,9 +1,9 @@
 -- What is promised of names.
 use Rattle.std.specs.Prelude.{ℕ, ◌≤◌, ◌<◌, ◌≡◌, Bool, true, false, List, [], ◌∷◌, leb, drop, length, get_or}
 use Rattle.format.specs.Reading.{pick}
-use Rattle.notation.specs.Bytes.{letter, nameByte}
+use Rattle.notation.specs.Bytes.{letter, name_byte}
 use Rattle.notation.specs.Tree.{Name}
-use Rattle.notation.specs.Lexer.{Piece, piece, no, past, gap, nameBehind, name}
+use Rattle.notation.specs.Lexer.{Piece, piece, no, past, gap, name_behind, name}
 use Rattle.notation.specs.At.{name_at}
 use Rattle.lexer.specs.declared.name.Name as N
 use Rattle.lexer.specs.declared.name.Name.TheVariants.{At, Nothing}
@@ -13,13 +13,13 @@ abbrev pub within : (lo hi b : ℕ) → Bool
 within lo hi b = pick (leb lo b) (leb b hi) false
 
 -- A byte of a name is in front.
-abbrev pub goesOn : List ℕ → Bool
-goesOn [] = false
-goesOn (b ∷ s) = nameByte b
+abbrev pub goes_on : List ℕ → Bool
+goes_on [] = false
+goes_on (b ∷ s) = name_byte b
 
 -- What is promised of the end of a name.
 pub record NameEnds (text : List ℕ) (from r : ℕ) : Type 0 where
-  pub goes : nameBehind (drop from text) ≡ drop r text
+  pub goes : name_behind (drop from text) ≡ drop r text
   pub onward : from ≤ r
   pub inside : from ≤ length text → r ≤ length text
 

@@ -3,8 +3,8 @@ use Rattle.std.specs.Prelude.{ℕ, ◌≤◌, ◌<◌, ◌≡◌, Bool, true, Li
 use Prim.Native.Char.{code}
 use Rattle.format.specs.Reading.{pick}
 use Rattle.notation.specs.Lexer.{Piece, piece, no, Word, operator, truth, sign}
-use Rattle.notation.specs.LexicalToken.{tokenOf}
-use Rattle.notation.specs.Places.{behindTruth, nameIn}
+use Rattle.notation.specs.LexicalToken.{token_of}
+use Rattle.notation.specs.Places.{behind_truth, name_in}
 use Rattle.chars.specs.Meant.{Ends}
 use Rattle.chars.specs.declared.written.End.{End}
 use Rattle.lexer.specs.declared.operator.Truth.{Truth}
@@ -32,7 +32,7 @@ AngleAt text start = (start < length text) × (get_or text start 0 ≡ code "<")
 pub record OperatorAt (text : List ℕ) (start symbol at : ℕ) : Type 0 where
   pub word : Word
   pub worded : Worded word symbol
-  pub goes : tokenOf (drop start text) ≡ operator word (drop at text)
-  pub names : nameIn (drop start text) ≡ behindTruth (truth (drop at text))
+  pub goes : token_of (drop start text) ≡ operator word (drop at text)
+  pub names : name_in (drop start text) ≡ behind_truth (truth (drop at text))
   pub onward : start < at
   pub inside : at ≤ length text

@@ -1,7 +1,7 @@
 // A text's names: a letter, and then letters and digits as far as they go. `_` is a letter.
 ghost use Rattle.std.specs.Prelude.{◌≡◌, ◌+◌, ◌<◌, ◌≤◌, drop, length};
-ghost use Rattle.notation.specs.Bytes.{letter, nameByte};
-ghost use Rattle.lexer.specs.Names.{within, goesOn, NameEnds, Finds};
+ghost use Rattle.notation.specs.Bytes.{letter, name_byte};
+ghost use Rattle.lexer.specs.Names.{within, goes_on, NameEnds, Finds};
 
 use crate::gap::{Gap, gap_from};
 
@@ -32,7 +32,7 @@ pub(crate) fn is_letter(b: u8) -> bool
 
 // Whether a byte is a name's.
 pub fn is_name(b: u8) -> bool
-    ensures { result ≡ nameByte b }
+    ensures { result ≡ name_byte b }
 {
     if is_letter(b) {
         return true;
@@ -42,7 +42,7 @@ pub fn is_name(b: u8) -> bool
 
 // Whether a byte of a name stands at a place.
 pub(crate) fn in_name(text: &[u8], i: usize) -> bool
-    ensures { result ≡ goesOn (drop i text.now) }
+    ensures { result ≡ goes_on (drop i text.now) }
 {
     if text.len() <= i {
         return false;

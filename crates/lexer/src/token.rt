@@ -2,7 +2,7 @@
 ghost use Rattle.std.specs.Prelude.{◌≡◌, true, ◌<◌, length, get_or};
 ghost use Rattle.notation.specs.Bytes.{letter};
 ghost use Rattle.lexer.specs.Meant.{Lexed};
-ghost use Rattle.lexer.specs.Tokens.{made as Tokens·made, simple as Tokens·simple, noToken, ended as Tokens·ended, Single, Begins};
+ghost use Rattle.lexer.specs.Tokens.{made as Tokens·made, simple as Tokens·simple, no_token, ended as Tokens·ended, Single, Begins};
 
 use crate::gap::{Gap, front, gap_from};
 use crate::name::{is_letter, name_end};
@@ -54,7 +54,7 @@ fn simple(kind: u8, symbol: u8, start: usize, next: usize) -> Token
 
 // What is no token.
 pub(crate) fn no_token(start: usize) -> Token
-    ensures { result ≡ noToken start }
+    ensures { result ≡ no_token start }
 {
     simple(11, 0, start, start)
 }

@@ -2,7 +2,7 @@
 ghost use Rattle.std.specs.Prelude.{◌≡◌, ◌≤◌, length};
 ghost use Rattle.notation.specs.Lexer.{same, word};
 ghost use Rattle.notation.specs.At.{name_at};
-ghost use Rattle.lexer.specs.Words.{conditionWord, queryWord, Worded};
+ghost use Rattle.lexer.specs.Words.{condition_word, query_word, Worded};
 
 use crate::name::in_name;
 
@@ -27,7 +27,7 @@ fn is_word(text: &[u8], from: usize, word: &[u8]) -> bool
 // The symbol of a condition's operator, if the name at a place is its word; else 255.
 fn condition_at(text: &[u8], from: usize) -> u8
     requires { from ≤ length text.now }
-    ensures { Worded (conditionWord (name_at text.now from)) result }
+    ensures { Worded (condition_word (name_at text.now from)) result }
 {
     if is_word(text, from, b"if") {
         return 9;
@@ -41,7 +41,7 @@ fn condition_at(text: &[u8], from: usize) -> u8
 // The symbol of a query or of a condition's operator, if the name at a place is its word; else 255.
 fn query_at(text: &[u8], from: usize) -> u8
     requires { from ≤ length text.now }
-    ensures { Worded (queryWord (name_at text.now from)) result }
+    ensures { Worded (query_word (name_at text.now from)) result }
 {
     if is_word(text, from, b"match") {
         return 5;

@@ -7,28 +7,28 @@ use Rattle.grammar.specs.Grammar.{node}
 use Rattle.image.specs.declared.node.Node.TheVariants.{Text}
 use Rattle.meaning.specs.State.{Symbol, State as Symbols}
 use Rattle.meaning.specs.Outcome.{begins, in_range, same, part, among, text}
-use Rattle.meaning.specs.Forward.{begins-fits, range-fits}
+use Rattle.meaning.specs.Forward.{begins_fits, range_fits}
 use Rattle.meaning.specs.Inside.{Part}
 use Rattle.parts.specs.declared.outcome.Outcome.{Outcome}
 use Rattle.parts.specs.declared.outcome.Outcome.TheVariants.{Refused}
 use Rattle.kinds.specs.declared.state.State.{State}
 use Rattle.parts.specs.Packed.{opened_of}
-use Rattle.parts.specs.Slots.{symbol_at, symbols, latestOf, Below, Parts}
+use Rattle.parts.specs.Slots.{symbol_at, symbols, latest_of, Below, Parts}
 use Rattle.parts.specs.Seen.{listed, seen_below}
-use Rattle.kinds.specs.Held.{envOf}
+use Rattle.kinds.specs.Held.{env_of}
 use Rattle.kinds.specs.Turned.{Bounds, Lent}
 use Rattle.kinds.specs.TurnedLaws.{wider, lent_by}
-use Rattle.machine.specs.ToldLaws.{tells-no-steps, tells-no-depth}
-use Rattle.machine.specs.Ready.{grammarOf, stepLimit, depthLimit, roomLimit, Ready, Done, telling}
-use Rattle.machine.specs.ReadyLaws.{kept-below, bounds_of}
-use Rattle.machine.specs.DoneLaws.{done-as, done_refused}
-use Rattle.machine.specs.EntryLaws.{Entry, below, Kind, in_image, long-text}
+use Rattle.machine.specs.ToldLaws.{tells_no_steps, tells_no_depth}
+use Rattle.machine.specs.Ready.{grammar_of, step_limit, depth_limit, room_limit, Ready, Done, telling}
+use Rattle.machine.specs.ReadyLaws.{kept_below, bounds_of}
+use Rattle.machine.specs.DoneLaws.{done_as, done_refused}
+use Rattle.machine.specs.EntryLaws.{Entry, below, Kind, in_image, long_text_lem}
 
 -- A symbol of the slots is one of those held.
-pub symbol-held : (h : ℕ) (slots : List ℕ) (k : ℕ) → k < h → Memᴰ (symbol_at slots k) (symbols h slots)
+pub symbol_held : (h : ℕ) (slots : List ℕ) (k : ℕ) → k < h → Memᴰ (symbol_at slots k) (symbols h slots)
 unfolding symbols
-symbol-held zero slots k l = absurd (omega arith)
-symbol-held (suc h) slots k l = go (λ m. symbol-held h slots k m) (ltb k h) refl
+symbol_held zero slots k l = absurd (omega arith)
+symbol_held (suc h) slots k l = go (λ m. symbol_held h slots k m) (ltb k h) refl
   where
     go : (k < h → Memᴰ (symbol_at slots k) (symbols h slots)) → (b : Bool) → ltb k h ≡ b
         → Memᴰ (symbol_at slots k) (symbols h slots ++ (symbol_at slots h ∷ []))
@@ -41,101 +41,101 @@ symbol-held (suc h) slots k l = go (λ m. symbol-held h slots k m) (ltb k h) ref
 
 module _ {code image input slots : List ℕ} {left at held spent deepest : ℕ} (ready : Ready code image input slots left at held spent deepest)
     (state : State) (n : ℕ) where
-  pub refuses-steps : stepLimit code ≤ spent → {q : ℕ} → opened_of q ≡ Refused 12 at spent deepest
-      → Done held slots slots q (telling code image input state left spent deepest (node (grammarOf image) n) at (symbols held slots))
-  refuses-steps h e =
-      done-as (done_refused 12 at spent deepest e)
-      (sym (tells-no-steps (grammarOf image) input (stepLimit code) (depthLimit code) (roomLimit code) left spent deepest (envOf state)
-      (node (grammarOf image) n) at (symbols held slots) h ready.reached))
+  pub refuses_steps : step_limit code ≤ spent → {q : ℕ} → opened_of q ≡ Refused 12 at spent deepest
+      → Done held slots slots q (telling code image input state left spent deepest (node (grammar_of image) n) at (symbols held slots))
+  refuses_steps h e =
+      done_as (done_refused 12 at spent deepest e)
+      (sym (tells_no_steps (grammar_of image) input (step_limit code) (depth_limit code) (room_limit code) left spent deepest (env_of state)
+      (node (grammar_of image) n) at (symbols held slots) h ready.reached))
 
-  pub refuses-depth : spent < stepLimit code → left ≡ 0 → {q : ℕ} → opened_of q ≡ Refused 13 at spent deepest
-      → Done held slots slots q (telling code image input state left spent deepest (node (grammarOf image) n) at (symbols held slots))
-  refuses-depth h z e =
-      done-as (done_refused 13 at spent deepest e)
-      (sym (tells-no-depth (grammarOf image) input (stepLimit code) (depthLimit code) (roomLimit code) left spent deepest (envOf state)
-      (node (grammarOf image) n) at (symbols held slots) h z (omega (arith, ready.reached))))
+  pub refuses_depth : spent < step_limit code → left ≡ 0 → {q : ℕ} → opened_of q ≡ Refused 13 at spent deepest
+      → Done held slots slots q (telling code image input state left spent deepest (node (grammar_of image) n) at (symbols held slots))
+  refuses_depth h z e =
+      done_as (done_refused 13 at spent deepest e)
+      (sym (tells_no_depth (grammar_of image) input (step_limit code) (depth_limit code) (room_limit code) left spent deepest (env_of state)
+      (node (grammar_of image) n) at (symbols held slots) h z (omega (arith, ready.reached))))
 
 -- ## An entry
 
 module _ {code image input slots : List ℕ} {left number at held spent deepest steps depth : ℕ}
     (E : Entry code image input slots left number at held spent deepest steps depth) where
-  pub place-fits : at ≤ 65535
-  place-fits = omega (arith, E.ready.place, E.ready.short)
+  pub place_fits : at ≤ 65535
+  place_fits = omega (arith, E.ready.place, E.ready.short)
 
   -- The symbols held and the charged tally fit an outcome.
-  pub tally-fits : (held ≤ 256) × (steps ≤ 1000000) × (depth ≤ 256)
-  tally-fits =
+  pub tally_fits : (held ≤ 256) × (steps ≤ 1000000) × (depth ≤ 256)
+  tally_fits =
       let r = E.ready in let b = below E in
-      (omega (arith, r.room, r.small-room), omega (arith, E.step, E.counted, r.few-steps), omega (arith, b.entered, r.small-depth))
+      (omega (arith, r.room, r.small_room), omega (arith, E.step, E.counted, r.few_steps), omega (arith, b.entered, r.small_depth))
 
-  pub held-lent : (held ≤ 256) × (held * 3 ≤ length slots)
-  held-lent = let r = E.ready in (omega (arith, r.room, r.small-room), omega (arith, r.room, r.lent))
+  pub held_lent : (held ≤ 256) × (held * 3 ≤ length slots)
+  held_lent = let r = E.ready in (omega (arith, r.room, r.small_room), omega (arith, r.room, r.lent))
 
   -- Where a test passes, the place that it passes to fits.
-  pub range-ends : (lo hi : ℕ) {ok : Bool} → ok ≡ in_range lo hi (drop at input) → ok ≡ true → at + 1 ≤ 65535
-  range-ends lo hi h e =
-      omega (arith, E.ready.short, length-drop at input, range-fits lo hi (drop at input) (sym h ∙ e))
+  pub range_ends : (lo hi : ℕ) {ok : Bool} → ok ≡ in_range lo hi (drop at input) → ok ≡ true → at + 1 ≤ 65535
+  range_ends lo hi h e =
+      omega (arith, E.ready.short, length-drop at input, range_fits lo hi (drop at input) (sym h ∙ e))
 
-  pub any-ends : ltb at (length input) ≡ true → at + 1 ≤ 65535
-  any-ends e = omega (arith, E.ready.short, ltb-true at (length input) e)
+  pub any_ends : ltb at (length input) ≡ true → at + 1 ≤ 65535
+  any_ends e = omega (arith, E.ready.short, ltb-true at (length input) e)
 
-  pub text-ends : {place count : ℕ} {ok : Bool} → Kind E (Text place count) → ok ≡ begins (take count (drop place image)) (drop at input)
+  pub text_ends : {place count : ℕ} {ok : Bool} → Kind E (Text place count) → ok ≡ begins (take count (drop place image)) (drop at input)
       → ok ≡ true → at + count ≤ 65535
-  text-ends {place} {count} k h e =
+  text_ends {place} {count} k h e =
       omega (
         arith,
         E.ready.short,
         E.ready.place,
         length-drop at input,
-        long-text E k,
-        begins-fits (take count (drop place image)) (drop at input) (sym h ∙ e),
+        long_text_lem E k,
+        begins_fits (take count (drop place image)) (drop at input) (sym h ∙ e),
       )
 
   -- A symbol that is held is a part of the input, also in slots of which nothing below the held was written.
-  pub held-part : {after : List ℕ} → Below held slots after → Parts (length input) held after
-  held-part {after} f k l =
-      E.ready.parts (symbol_at after k) (subst (Memᴰ (symbol_at after k)) (kept-below f) (symbol-held held after k l))
+  pub held_part : {after : List ℕ} → Below held slots after → Parts (length input) held after
+  held_part {after} f k l =
+      E.ready.parts (symbol_at after k) (subst (Memᴰ (symbol_at after k)) (kept_below f) (symbol_held held after k l))
 
-  module _ (table low : ℕ) {seen : ℕ} (e : seen ≡ latestOf table low held slots) (some : 0 < seen) where
+  module _ (table low : ℕ) {seen : ℕ} (e : seen ≡ latest_of table low held slots) (some : 0 < seen) where
     -- What is seen is held.
-    pub seen-held : seen - 1 < held
-    seen-held = omega (arith, seen_below table low slots held e)
+    pub seen_held : seen - 1 < held
+    seen_held = omega (arith, seen_below table low slots held e)
 
-    pub seen-fits : {after : List ℕ} → Below held slots after
+    pub seen_fits : {after : List ℕ} → Below held slots after
         → (seen - 1 ≤ 255) × ((seen - 1) * 3 + 3 ≤ length after) × Part (length input) (symbol_at after (seen - 1))
-    seen-fits f =
-        let l = seen-held in (
-          omega (arith, held-lent.0),
-          omega (arith, held-lent.1, f.long),
-          held-part f (seen - 1) l,
+    seen_fits f =
+        let l = seen_held in (
+          omega (arith, held_lent.0),
+          omega (arith, held_lent.1, f.long),
+          held_part f (seen - 1) l,
         )
 
   -- What the expression inside gives is within bounds.
   module _ {after : List ℕ} {r : ℕ} (state : State) (n : ℕ)
-      (done : Done held slots after r (telling code image input state (left - 1) steps depth (node (grammarOf image) n) at (symbols held slots))) where
-    inner-bounds : Bounds (length input) at held (roomLimit code) (opened_of r)
-    inner-bounds = bounds_of state (node (grammarOf image) n) (below E) done
+      (done : Done held slots after r (telling code image input state (left - 1) steps depth (node (grammar_of image) n) at (symbols held slots))) where
+    inner_bounds : Bounds (length input) at held (room_limit code) (opened_of r)
+    inner_bounds = bounds_of state (node (grammar_of image) n) (below E) done
 
-    pub plain-bounds : Bounds 65535 0 0 256 (opened_of r)
-    plain-bounds =
-        wider (length input) at held (roomLimit code) 65535 0 0 256 (opened_of r) E.ready.short (omega arith) (omega arith)
-        E.ready.small-room inner-bounds
+    pub plain_bounds : Bounds 65535 0 0 256 (opened_of r)
+    plain_bounds =
+        wider (length input) at held (room_limit code) 65535 0 0 256 (opened_of r) E.ready.short (omega arith) (omega arith)
+        E.ready.small_room inner_bounds
 
-    pub scope-bounds : Bounds 65535 0 held 256 (opened_of r)
-    scope-bounds =
-        wider (length input) at held (roomLimit code) 65535 0 held 256 (opened_of r) E.ready.short (omega arith) (omega arith)
-        E.ready.small-room inner-bounds
+    pub scope_bounds : Bounds 65535 0 held 256 (opened_of r)
+    scope_bounds =
+        wider (length input) at held (room_limit code) 65535 0 held 256 (opened_of r) E.ready.short (omega arith) (omega arith)
+        E.ready.small_room inner_bounds
 
-    pub named-bounds : Bounds (length input) at 0 256 (opened_of r)
-    named-bounds =
-        wider (length input) at held (roomLimit code) (length input) at 0 256 (opened_of r) (omega arith) (omega arith) (omega arith)
-        E.ready.small-room inner-bounds
+    pub named_bounds : Bounds (length input) at 0 256 (opened_of r)
+    named_bounds =
+        wider (length input) at held (room_limit code) (length input) at 0 256 (opened_of r) (omega arith) (omega arith) (omega arith)
+        E.ready.small_room inner_bounds
 
-    pub room-lent : roomLimit code * 3 ≤ length after
-    room-lent = omega (arith, done.frame.long, E.ready.lent)
+    pub room_lent : room_limit code * 3 ≤ length after
+    room_lent = omega (arith, done.frame.long, E.ready.lent)
 
-    pub scope-lent : Lent after (opened_of r)
-    scope-lent = lent_by (length input) at held (roomLimit code) after (opened_of r) room-lent inner-bounds
+    pub scope_lent : Lent after (opened_of r)
+    scope_lent = lent_by (length input) at held (room_limit code) after (opened_of r) room_lent inner_bounds
 
 -- ## The lists that Is and Isa compare with
 
@@ -148,11 +148,11 @@ among_one x bytes s = go (same bytes (text x s))
     go false = refl
 
 -- A symbol below the held is the same where nothing below them was written.
-pub same-symbol : {held : ℕ} {before after : List ℕ} → Below held before after → (k : ℕ) → k < held → symbol_at after k ≡ symbol_at before k
-same-symbol f k l =
+pub same_symbol_lem : {held : ℕ} {before after : List ℕ} → Below held before after → (k : ℕ) → k < held → symbol_at after k ≡ symbol_at before k
+same_symbol_lem f k l =
     cc (f.same (k * 3) (omega arith), f.same (k * 3 + 1) (omega arith), f.same (k * 3 + 2) (omega arith))
 
-pub is-test : (x : List ℕ) (at end : ℕ) {list : Symbols} {s s' : Symbol} (l : Symbols) → s' ≡ s → list ≡ s ∷ l
+pub is_test : (x : List ℕ) (at end : ℕ) {list : Symbols} {s s' : Symbol} (l : Symbols) → s' ≡ s → list ≡ s ∷ l
     → same (part x at end) (text x s') ≡ among x (part x at end) (take 1 list)
-is-test x at end {s = s} l e f =
+is_test x at end {s = s} l e f =
     ap (λ s. same (part x at end) (text x s)) e ∙ among_one x (part x at end) s ∙ ap (λ l. among x (part x at end) (take 1 l)) (sym f)

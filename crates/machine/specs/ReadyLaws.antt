@@ -14,20 +14,20 @@ use Rattle.meaning.specs.Cost.{Cost}
 use Rattle.meaning.specs.Kept.{kept}
 use Rattle.meaning.specs.Run.{Result, ran, refused, run}
 use Rattle.meaning.specs.Exact.{exact}
-use Rattle.meaning.specs.Forward.{forward, ahead-pass}
-use Rattle.meaning.specs.Remain.{remain, ends-eq}
-use Rattle.meaning.specs.Room.{room-enough, of-pass}
-use Rattle.meaning.specs.Inside.{Part, kept-inside}
+use Rattle.meaning.specs.Forward.{forward, ahead_pass}
+use Rattle.meaning.specs.Remain.{remain, ends_eq}
+use Rattle.meaning.specs.Room.{room_enough, of_pass}
+use Rattle.meaning.specs.Inside.{Part, kept_inside}
 use Rattle.parts.specs.declared.outcome.Outcome.{Outcome}
 use Rattle.parts.specs.declared.outcome.Outcome.TheVariants.{Passed, Failed, Refused}
 use Rattle.kinds.specs.declared.state.State.{State}
 use Rattle.parts.specs.Packed.{opened_of}
 use Rattle.parts.specs.Slots.{symbols, Below}
-use Rattle.parts.specs.SlotsLaws.{symbols-length, symbols-same}
-use Rattle.kinds.specs.Held.{envOf}
+use Rattle.parts.specs.SlotsLaws.{symbols_length, symbols_same}
+use Rattle.kinds.specs.Held.{env_of}
 use Rattle.kinds.specs.Turned.{Bounds}
 use Rattle.machine.specs.Told.{Told, came, stopped, carry, tells}
-use Rattle.machine.specs.Ready.{grammarOf, stepLimit, depthLimit, roomLimit, Ready, readBack, Done, telling}
+use Rattle.machine.specs.Ready.{grammar_of, step_limit, depth_limit, room_limit, Ready, read_back, Done, telling}
 
 -- ## What is said where an expression passes, and where it fails
 
@@ -59,9 +59,9 @@ module _ (g : Grammar) (x : List ℕ) (B D R left s d : ℕ) (v : Env) (e : Expr
             let eτ : τ ≡ τ' = cc in
             let es : s' ≡ s + c.steps = cc in
             let ed : d' ≡ max d (D - left + c.depth) = cc in
-            let a = ahead-pass (forward g x w.0 place) in
-            let k : τ ≡ σ ++ kept g x w.0 = eτ ∙ ends-eq g x (remain g x w.0) in
-            let m = of-pass (room-enough g x w.0) in
+            let a = ahead_pass (forward g x w.0 place) in
+            let k : τ ≡ σ ++ kept g x w.0 = eτ ∙ ends_eq g x (remain g x w.0) in
+            let m = of_pass (room_enough g x w.0) in
             record {
               on = omega (arith, eq, a.0);
               inside = omega (arith, eq, a.1);
@@ -70,7 +70,7 @@ module _ (g : Grammar) (x : List ℕ) (B D R left s d : ℕ) (v : Env) (e : Expr
               spent = omega (arith, es, w.1);
               deeper = omega (arith, ed);
               entered = omega (arith, ed, w.1);
-              parts = λ old y i. which old y (kept g x w.0) (kept-inside g x w.0 place y) (subst (Memᴰ y) k i);
+              parts = λ old y i. which old y (kept g x w.0) (kept_inside g x w.0 place y) (subst (Memᴰ y) k i);
             }
           where
             which : ((y : Symbol) → Memᴰ y σ → Part (length x) y) → (y : Symbol) (l : Symbols) → (Memᴰ y l → Part (length x) y)
@@ -99,25 +99,25 @@ module _ (g : Grammar) (x : List ℕ) (B D R left s d : ℕ) (v : Env) (e : Expr
 -- ## From one call to the next
 
 -- Symbols below a mark that was kept are as they were.
-pub kept-below : {held : ℕ} {before after : List ℕ} → Below held before after → symbols held after ≡ symbols held before
-kept-below {held} {before} {after} f = symbols-same held before after f.same
+pub kept_below : {held : ℕ} {before after : List ℕ} → Below held before after → symbols held after ≡ symbols held before
+kept_below {held} {before} {after} f = symbols_same held before after f.same
 
 pub below_then : {held more : ℕ} {before mid after : List ℕ} → held ≤ more → Below held before mid → Below more mid after → Below held before after
 below_then l f h = record { long = h.long ∙ f.long; same = λ k m. h.same k (omega arith) ∙ f.same k m }
 
-pub below-same : (held : ℕ) (slots : List ℕ) → Below held slots slots
-below-same held slots = record { long = refl; same = λ k m. refl }
+pub below_same : (held : ℕ) (slots : List ℕ) → Below held slots slots
+below_same held slots = record { long = refl; same = λ k m. refl }
 
 -- What stays in a run stays: the array, the limits, the input, the length of the slots. The rest is to be shown anew.
 pub moved : {code image input before after : List ℕ} {left left' at at' held held' s s' d d' : ℕ} → Ready code image input before left at held s d
-    → length after ≡ length before → at' ≤ length input → held' ≤ roomLimit code → s' ≤ stepLimit code → left' ≤ depthLimit code
-    → depthLimit code - left' ≤ d' → d' ≤ depthLimit code → ((y : Symbol) → Memᴰ y (symbols held' after) → Part (length input) y)
+    → length after ≡ length before → at' ≤ length input → held' ≤ room_limit code → s' ≤ step_limit code → left' ≤ depth_limit code
+    → depth_limit code - left' ≤ d' → d' ≤ depth_limit code → ((y : Symbol) → Memᴰ y (symbols held' after) → Part (length input) y)
     → Ready code image input after left' at' held' s' d'
 moved ready long place room spent deep reached entered parts = record {
   coded = ready.coded;
-  few-steps = ready.few-steps;
-  small-depth = ready.small-depth;
-  small-room = ready.small-room;
+  few_steps = ready.few_steps;
+  small_depth = ready.small_depth;
+  small_room = ready.small_room;
   lent = omega (arith, long, ready.lent);
   bytes = ready.bytes;
   short = ready.short;
@@ -136,51 +136,51 @@ module _ {code image input before after : List ℕ} {left at held s d : ℕ} {r 
   abbrev σ : Symbols
   σ = symbols held before
 
-  fits-room : length σ ≤ roomLimit code
-  fits-room = omega (arith, symbols-length held before, ready.room)
+  fits_room : length σ ≤ room_limit code
+  fits_room = omega (arith, symbols_length held before, ready.room)
 
   abbrev said : Outcome → Type 0
-  said o = readBack o after ≡ telling code image input state left s d e at σ
+  said o = read_back o after ≡ telling code image input state left s d e at σ
 
   went : {a : ℕ} (h : ℕ) {s' d' : ℕ} → said (Passed a h s' d')
-      → Passes (grammarOf image) input (stepLimit code) (depthLimit code) (roomLimit code) left s d (envOf state) e at σ a (symbols h after) s' d'
+      → Passes (grammar_of image) input (step_limit code) (depth_limit code) (room_limit code) left s d (env_of state) e at σ a (symbols h after) s' d'
   went h q =
-      passes (grammarOf image) input (stepLimit code) (depthLimit code) (roomLimit code) left s d (envOf state) e at σ ready.place fits-room
+      passes (grammar_of image) input (step_limit code) (depth_limit code) (room_limit code) left s d (env_of state) e at σ ready.place fits_room
       ready.spent ready.deep ready.entered q
 
   stayed : {s' d' : ℕ} → said (Failed s' d')
-      → Fails (grammarOf image) input (stepLimit code) (depthLimit code) (roomLimit code) left s d (envOf state) e at σ s' d'
+      → Fails (grammar_of image) input (step_limit code) (depth_limit code) (room_limit code) left s d (env_of state) e at σ s' d'
   stayed q =
-      fails (grammarOf image) input (stepLimit code) (depthLimit code) (roomLimit code) left s d (envOf state) e at σ ready.place fits-room
+      fails (grammar_of image) input (step_limit code) (depth_limit code) (room_limit code) left s d (env_of state) e at σ ready.place fits_room
       ready.spent ready.deep ready.entered q
 
   -- An outcome is within its bounds.
-  pub bounds_of : Bounds (length input) at held (roomLimit code) (opened_of r)
+  pub bounds_of : Bounds (length input) at held (room_limit code) (opened_of r)
   bounds_of = go (opened_of r) done.says
     where
-      go : (o : Outcome) → said o → Bounds (length input) at held (roomLimit code) o
+      go : (o : Outcome) → said o → Bounds (length input) at held (room_limit code) o
       go (Passed a h s' d') q =
           let w = went h q in (
             w.on,
             w.inside,
-            omega (arith, w.more, symbols-length held before, symbols-length h after),
-            omega (arith, w.room, symbols-length h after),
-            omega (arith, w.spent, ready.few-steps),
-            omega (arith, w.entered, ready.small-depth),
+            omega (arith, w.more, symbols_length held before, symbols_length h after),
+            omega (arith, w.room, symbols_length h after),
+            omega (arith, w.spent, ready.few_steps),
+            omega (arith, w.entered, ready.small_depth),
           )
-      go (Failed s' d') q = let w = stayed q in (omega (arith, w.spent, ready.few-steps), omega (arith, w.entered, ready.small-depth))
+      go (Failed s' d') q = let w = stayed q in (omega (arith, w.spent, ready.few_steps), omega (arith, w.entered, ready.small_depth))
       go (Refused n p s' d') q = tt
 
   -- Where it passed, the next starts from there;
-  pub ready-next : {a h s' d' : ℕ} → opened_of r ≡ Passed a h s' d' → Ready code image input after left a h s' d'
-  ready-next {a} {h} {s'} {d'} f =
-      let w = went h (ap (λ o. readBack o after) (sym f) ∙ done.says) in
-      moved ready done.frame.long w.inside (omega (arith, w.room, symbols-length h after)) w.spent ready.deep
+  pub ready_next : {a h s' d' : ℕ} → opened_of r ≡ Passed a h s' d' → Ready code image input after left a h s' d'
+  ready_next {a} {h} {s'} {d'} f =
+      let w = went h (ap (λ o. read_back o after) (sym f) ∙ done.says) in
+      moved ready done.frame.long w.inside (omega (arith, w.room, symbols_length h after)) w.spent ready.deep
       (omega (arith, ready.reached, w.deeper)) w.entered (w.parts ready.parts)
 
   -- where it failed, from the same place with the same symbols.
-  pub ready-back : {s' d' : ℕ} → opened_of r ≡ Failed s' d' → Ready code image input after left at held s' d'
-  ready-back {s'} {d'} f =
-      let w = stayed (ap (λ o. readBack o after) (sym f) ∙ done.says) in
+  pub ready_back : {s' d' : ℕ} → opened_of r ≡ Failed s' d' → Ready code image input after left at held s' d'
+  ready_back {s'} {d'} f =
+      let w = stayed (ap (λ o. read_back o after) (sym f) ∙ done.says) in
       moved ready done.frame.long ready.place ready.room w.spent ready.deep (omega (arith, ready.reached, w.deeper))
-      w.entered (λ y i. ready.parts y (subst (Memᴰ y) (kept-below done.frame) i))
+      w.entered (λ y i. ready.parts y (subst (Memᴰ y) (kept_below done.frame) i))

@@ -38,33 +38,33 @@ module _ {from at held steps depth : ℕ} (h : Has from at held steps depth) whe
     as_one d = rw (sym h.place, sym h.names, sym h.spent, sym h.deepest) d
 
 -- A passed outcome, as the number that is started from next.
-pub has-passed-as : (r : ℕ) {a h a' h' s d : ℕ} → opened_of r ≡ Passed a h s d → a ≡ a' → h ≡ h' → Has r a' h' s d
-has-passed-as r e i j =
+pub has_passed_as : (r : ℕ) {a h a' h' s d : ℕ} → opened_of r ≡ Passed a h s d → a ≡ a' → h ≡ h' → Has r a' h' s d
+has_passed_as r e i j =
     let p = has_parts r e in record { place = sym i ∙ p.0; names = sym j ∙ p.1; spent = p.2; deepest = p.3 }
 
-pub has-passed : (r : ℕ) {a h s d : ℕ} → opened_of r ≡ Passed a h s d → Has r a h s d
-has-passed r e = has-passed-as r e refl refl
+pub has_passed : (r : ℕ) {a h s d : ℕ} → opened_of r ≡ Passed a h s d → Has r a h s d
+has_passed r e = has_passed_as r e refl refl
 
 -- One byte further, in its parts.
-pub onward-given : (now : ℕ) {at held steps depth : ℕ} (ok : Bool) (q : ℕ) → Has now at held steps depth
+pub onward_given : (now : ℕ) {at held steps depth : ℕ} (ok : Bool) (q : ℕ) → Has now at held steps depth
     → opened_of q ≡ pick ok (Passed (atOf now + 1) (heldOf now) (steps_of now) (depth_of now)) (Failed (steps_of now) (depth_of now))
     → opened_of q ≡ given_of ok (at + 1) held steps depth
-onward-given now ok q h e = rw (h.place, h.names, h.spent, h.deepest) e
+onward_given now ok q h e = rw (h.place, h.names, h.spent, h.deepest) e
 
 -- What lies in the front of a list lies in the list.
-front-part : (l : List ℕ) (n i m : ℕ) → i + m ≤ length (take n l) → take m (drop i (take n l)) ≡ take m (drop i l)
-front-part l n zero m h = take-take m n l (omega (arith, h, length-take n l))
-front-part [] zero (suc i) m h = refl
-front-part [] (suc n) (suc i) m h = refl
-front-part (x ∷ l) zero (suc i) m h = absurd (omega (arith, h))
-front-part (x ∷ l) (suc n) (suc i) m h = front-part l n i m (omega (arith, h))
+front_part : (l : List ℕ) (n i m : ℕ) → i + m ≤ length (take n l) → take m (drop i (take n l)) ≡ take m (drop i l)
+front_part l n zero m h = take-take m n l (omega (arith, h, length-take n l))
+front_part [] zero (suc i) m h = refl
+front_part [] (suc n) (suc i) m h = refl
+front_part (x ∷ l) zero (suc i) m h = absurd (omega (arith, h))
+front_part (x ∷ l) (suc n) (suc i) m h = front_part l n i m (omega (arith, h))
 
 -- The bytes of a Text are the same in the image and in the bytes that are lent, and lie in both.
 module _ (code bytes : List ℕ) (place count : ℕ) (h : place + count ≤ length (image_of code bytes)) where
-  pub lent-text : take count (drop place bytes) ≡ take count (drop place (image_of code bytes))
+  pub lent_text : take count (drop place bytes) ≡ take count (drop place (image_of code bytes))
   unfolding image_of
-  lent-text = sym (front-part bytes (get_or code 523 0) place count h)
+  lent_text = sym (front_part bytes (get_or code 523 0) place count h)
 
-  pub text-lent : place + count ≤ length bytes
+  pub text_lent : place + count ≤ length bytes
   unfolding image_of
-  text-lent = omega (arith, h, length-take (get_or code 523 0) bytes)
+  text_lent = omega (arith, h, length-take (get_or code 523 0) bytes)

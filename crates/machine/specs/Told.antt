@@ -35,10 +35,10 @@ become f (came o s d) = came (f o) s d
 become f (stopped n p s d) = stopped n p s d
 
 -- What follows a round of a Star that began at p.
-abbrev pub afterRound : ℕ → State → Told → (ℕ → State → ℕ → ℕ → Told) → Told
-afterRound p σ (came (pass q τ) s d) again = pick (ltb p q) (again q τ s d) (stopped 15 p s d)
-afterRound p σ (came fail s d) again = came (pass p σ) s d
-afterRound p σ (stopped n q s d) again = stopped n q s d
+abbrev pub after_round : ℕ → State → Told → (ℕ → State → ℕ → ℕ → Told) → Told
+after_round p σ (came (pass q τ) s d) again = pick (ltb p q) (again q τ s d) (stopped 15 p s d)
+after_round p σ (came fail s d) again = came (pass p σ) s d
+after_round p σ (stopped n q s d) again = stopped n q s d
 
 -- Under the limits B, D and R, where so much depth is left and the tally stands at `steps` and `depth`.
 module _ (g : Grammar) (x : List ℕ) (B D R : ℕ) where
@@ -48,4 +48,4 @@ module _ (g : Grammar) (x : List ℕ) (B D R : ℕ) where
   -- A Star whose next round is charged already, with so much depth left for its body.
   abbrev pub rounding : (left steps depth : ℕ) → Env → ℕ → ℕ → State → Told
   rounding left steps depth v a p σ =
-      afterRound p σ (tells left steps depth v (node g a) p σ) (λ q τ s d. tells (left + 1) s d v (Star a) q τ)
+      after_round p σ (tells left steps depth v (node g a) p σ) (λ q τ s d. tells (left + 1) s d v (Star a) q τ)

@@ -8,11 +8,11 @@ use Rattle.parts.specs.declared.outcome.Outcome.TheVariants.{Passed, Failed, Ref
 use Rattle.kinds.specs.declared.state.State.{State}
 use Rattle.parts.specs.Packed.{opened_of}
 use Rattle.parts.specs.Slots.{symbols}
-use Rattle.parts.specs.SlotsLaws.{symbols-length, closes-once}
-use Rattle.kinds.specs.Held.{envOf}
-use Rattle.kinds.specs.Turned.{definedIn, ClosedOf}
+use Rattle.parts.specs.SlotsLaws.{symbols_length, closes_once}
+use Rattle.kinds.specs.Held.{env_of}
+use Rattle.kinds.specs.Turned.{defined_in, ClosedOf}
 use Rattle.machine.specs.Told.{Told}
-use Rattle.machine.specs.Ready.{readBack, Done}
+use Rattle.machine.specs.Ready.{read_back, Done}
 
 -- `at_of`, `held_of`, `steps_of`, `depth_of`: each promises its number.
 pub one_number : (r r' : ℕ) {n : ℕ} → r ≡ n → r' ≡ n → r ≡ r'
@@ -24,40 +24,40 @@ one_list l l' e f = e ∙ sym f
 
 -- `passed`, `failed`, `refused`, `stopped`, `onward`, `given`, `again`, `negated`, `restored`, `is_latest`, `is_some`: each promises
 -- `opened_of q ≡ o`.
-pub one-opened : (q q' : ℕ) {o : Outcome} → opened_of q ≡ o → opened_of q' ≡ o → opened_of q ≡ opened_of q'
-one-opened q q' e f = e ∙ sym f
+pub one_opened : (q q' : ℕ) {o : Outcome} → opened_of q ≡ o → opened_of q' ≡ o → opened_of q ≡ opened_of q'
+one_opened q q' e f = e ∙ sym f
 
 -- `defined`: the outcome and the slots.
-pub one-defined : (q q' : ℕ) {o : Outcome} {end after after' : List ℕ} → (opened_of q ≡ o) × (after ≡ end) → (opened_of q' ≡ o) × (after' ≡ end)
+pub one_defined : (q q' : ℕ) {o : Outcome} {end after after' : List ℕ} → (opened_of q ≡ o) × (after ≡ end) → (opened_of q' ≡ o) × (after' ≡ end)
     → (opened_of q ≡ opened_of q') × (after ≡ after')
-one-defined q q' h h' = (h.0 ∙ sym h'.0, h.1 ∙ sym h'.1)
+one_defined q q' h h' = (h.0 ∙ sym h'.0, h.1 ∙ sym h'.1)
 
 -- `closed`: the outcome and the slots.
-pub one-closed : (table held : ℕ) (o : Outcome) (before after after' : List ℕ) (p p' : Outcome) → ClosedOf table held o before after p
+pub one_closed : (table held : ℕ) (o : Outcome) (before after after' : List ℕ) (p p' : Outcome) → ClosedOf table held o before after p
     → ClosedOf table held o before after' p' → (p ≡ p') × (after ≡ after')
-one-closed table held (Passed a h s d) before after after' q q' w w' =
-    let e = closes-once w.2 w'.2 in (w.1 ∙ ap (λ k. Passed a k s d) e.0 ∙ sym w'.1, e.1)
-one-closed table held (Failed s d) before after after' q q' w w' = (w.0 ∙ sym w'.0, w.1 ∙ sym w'.1)
-one-closed table held (Refused n p s d) before after after' q q' w w' = (w.0 ∙ sym w'.0, w.1 ∙ sym w'.1)
+one_closed table held (Passed a h s d) before after after' q q' w w' =
+    let e = closes_once w.2 w'.2 in (w.1 ∙ ap (λ k. Passed a k s d) e.0 ∙ sym w'.1, e.1)
+one_closed table held (Failed s d) before after after' q q' w w' = (w.0 ∙ sym w'.0, w.1 ∙ sym w'.1)
+one_closed table held (Refused n p s d) before after after' q q' w w' = (w.0 ∙ sym w'.0, w.1 ∙ sym w'.1)
 
 -- `with_truth`, `with_floor`: the environment is the whole of the state.
-pub one_state : (s s' : State) {v : Env} → envOf s ≡ v → envOf s' ≡ v → s ≡ s'
+pub one_state : (s s' : State) {v : Env} → env_of s ≡ v → env_of s' ≡ v → s ≡ s'
 one_state s s' e f =
     let g = e ∙ sym f in λ i. record { truths = (g i).truths; floors = (g i).floors }
 
 -- `eval`, `inside`, `sequence`, `choice`, `star`: the outcome, and the symbols that it holds. What lies in the slots above those is left open, since
 -- nothing ever looks there before it is written.
-pub one-outcome : {held : ℕ} {before after after' : List ℕ} {r r' : ℕ} {T : Told} → Done held before after r T → Done held before after' r' T
-    → (opened_of r ≡ opened_of r') × (readBack (opened_of r) after ≡ readBack (opened_of r) after')
-one-outcome {after = after} {after' = after'} {r = r} {r' = r'} h h' =
+pub one_outcome : {held : ℕ} {before after after' : List ℕ} {r r' : ℕ} {T : Told} → Done held before after r T → Done held before after' r' T
+    → (opened_of r ≡ opened_of r') × (read_back (opened_of r) after ≡ read_back (opened_of r) after')
+one_outcome {after = after} {after' = after'} {r = r} {r' = r'} h h' =
     let e = same (opened_of r) (opened_of r') (h.says ∙ sym h'.says) in
-    (e, h.says ∙ sym h'.says ∙ ap (λ o. readBack o after') (sym e))
+    (e, h.says ∙ sym h'.says ∙ ap (λ o. read_back o after') (sym e))
   where
-    same : (o o' : Outcome) → readBack o after ≡ readBack o' after' → o ≡ o'
+    same : (o o' : Outcome) → read_back o after ≡ read_back o' after' → o ≡ o'
     same (Passed a k s d) (Passed a' k' s' d') e =
         let q : symbols k after ≡ symbols k' after' = cc in
         let i : a ≡ a' = cc in
-        let j : k ≡ k' = sym (symbols-length k after) ∙ ap length q ∙ symbols-length k' after' in
+        let j : k ≡ k' = sym (symbols_length k after) ∙ ap length q ∙ symbols_length k' after' in
         let l : s ≡ s' = cc in
         let m : d ≡ d' = cc in λ n. Passed (i n) (j n) (l n) (m n)
     same (Passed a k s d) (Failed s' d') e = let z : ◌≡◌ {A = ℕ} 0 1 = cc in absurd (omega arith)

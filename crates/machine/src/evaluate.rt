@@ -8,7 +8,7 @@ ghost use Rattle.std.specs.Prelude.{◌+◌, ◌<◌, ◌≤◌};
 ghost use Rattle.parts.specs.Packed.{atOf, heldOf, steps_of};
 ghost use Rattle.parts.specs.Slots.{symbols};
 ghost use Rattle.machine.specs.Told.{and_then, or_else};
-ghost use Rattle.machine.specs.Ready.{stepLimit, depthLimit, Starts, Numbered, Done, running, saying, repeating};
+ghost use Rattle.machine.specs.Ready.{step_limit, depth_limit, Starts, Numbered, Done, running, saying, repeating};
 
 use image::node::{Node, node_of, span_of};
 use kinds::inside::{again, closed, defined, given, is_latest, is_some, negated, restored};
@@ -72,7 +72,7 @@ pub fn inside(
     node: u32,
     from: u64,
 ) -> u64
-    requires { Starts code.now image.now input.now slots.old left from × Numbered code.now image.now node × (steps_of from < stepLimit code.now) × (1 ≤ left) }
+    requires { Starts code.now image.now input.now slots.old left from × Numbered code.now image.now node × (steps_of from < step_limit code.now) × (1 ≤ left) }
     ensures { Done (heldOf from) slots.old slots.new result
         (saying code.now image.now input.now state slots.old left from node) }
 {
@@ -238,7 +238,7 @@ fn star(
     a: u32,
     from: u64,
 ) -> u64
-    requires { Starts code.now image.now input.now slots.old left from × Numbered code.now image.now a × (left + 1 ≤ depthLimit code.now) }
+    requires { Starts code.now image.now input.now slots.old left from × Numbered code.now image.now a × (left + 1 ≤ depth_limit code.now) }
     ensures { Done (heldOf from) slots.old slots.new result
         (repeating code.now image.now input.now state slots.old left from a) }
 {

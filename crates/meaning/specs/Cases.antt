@@ -18,22 +18,22 @@ abbrev row : (image input : List ℕ) (B D R : ℕ) (answer slots : List ℕ) �
 row image input B D R answer slots = record { image = image; input = input; B = B; D = D; R = R; answer = answer; slots = slots }
 
 -- Image H with Match in the place of Is.
-abbrev harbourMatch : List ℕ
-harbourMatch =
+abbrev harbour_match : List ℕ
+harbour_match =
     0x01 ∷ 0x01 ∷ 0x00 ∷ 0x08 ∷ 0x07 ∷ 0x02 ∷ 0x02 ∷ 0x41 ∷ 0x5A ∷ 0x07 ∷ 0x00 ∷ 0x05 ∷ 0x00 ∷ 0x01 ∷ 0x0A ∷ 0x00 ∷ 0x01 ∷ 0x3D ∷ 0x0B ∷ 0x00
     ∷ 0x05 ∷ 0x04 ∷ 0x05 ∷ 0x05 ∷ 0x03 ∷ 0x06 ∷ []
 
 -- A Call to itself alone; a Star of Empty.
-abbrev callItself : List ℕ
-callItself = 0x01 ∷ 0x00 ∷ 0x00 ∷ 0x01 ∷ 0x00 ∷ 0x09 ∷ 0x00 ∷ []
+abbrev call_itself : List ℕ
+call_itself = 0x01 ∷ 0x00 ∷ 0x00 ∷ 0x01 ∷ 0x00 ∷ 0x09 ∷ 0x00 ∷ []
 
-abbrev starOfEmpty : List ℕ
-starOfEmpty = 0x01 ∷ 0x00 ∷ 0x00 ∷ 0x02 ∷ 0x01 ∷ 0x00 ∷ 0x07 ∷ 0x00 ∷ []
+abbrev star_of_empty : List ℕ
+star_of_empty = 0x01 ∷ 0x00 ∷ 0x00 ∷ 0x02 ∷ 0x01 ∷ 0x00 ∷ 0x07 ∷ 0x00 ∷ []
 
 -- A choice of (Def then `!`) and (name then Exists): nodes 0 Range A Z, 1 Star 0, 2 Sequence 0 1 (the name), 3 Def 0, 4 Byte `!`, 5 Sequence 3 4,
 -- 6 Exists 0, 7 Sequence 2 6, 8 Choice 5 7.
-abbrev defOrExists : List ℕ
-defOrExists =
+abbrev def_or_exists : List ℕ
+def_or_exists =
     0x01 ∷ 0x01 ∷ 0x00 ∷ 0x09 ∷ 0x08 ∷ 0x02 ∷ 0x02 ∷ 0x41 ∷ 0x5A ∷ 0x07 ∷ 0x00 ∷ 0x05 ∷ 0x00 ∷ 0x01 ∷ 0x0A ∷ 0x00 ∷ 0x01 ∷ 0x21 ∷ 0x05 ∷ 0x03 ∷ 0x04
     ∷ 0x0E ∷ 0x00 ∷ 0x05 ∷ 0x02 ∷ 0x06 ∷ 0x06 ∷ 0x05 ∷ 0x07 ∷ []
 
@@ -47,8 +47,8 @@ B' = 0x42
 abbrev eq : ℕ
 eq = 0x3D
 
-abbrev pub harbourCases : List Case
-harbourCases =
+abbrev pub harbour_cases : List Case
+harbour_cases =
     row harbour (A ∷ eq ∷ A ∷ []) 13 6 1 (0 ∷ 3 ∷ 13 ∷ 6 ∷ 1 ∷ 0 ∷ []) (0 ∷ 0 ∷ 1 ∷ [])
     ∷ row harbour (A ∷ eq ∷ A ∷ []) 12 6 1 (12 ∷ 0 ∷ 12 ∷ 5 ∷ 0 ∷ 3 ∷ []) []
     ∷ row harbour (A ∷ eq ∷ A ∷ []) 13 5 1 (13 ∷ 0 ∷ 12 ∷ 5 ∷ 0 ∷ 3 ∷ []) []
@@ -57,11 +57,11 @@ harbourCases =
     ∷ row harbour (A ∷ eq ∷ B' ∷ []) 13 6 1 (99 ∷ 0 ∷ 13 ∷ 6 ∷ 0 ∷ 0 ∷ []) []
     ∷ row harbour [] 4 4 0 (99 ∷ 0 ∷ 4 ∷ 4 ∷ 0 ∷ 0 ∷ []) []
     ∷ row harbour (A ∷ eq ∷ A ∷ B' ∷ []) 1000000 256 256 (99 ∷ 0 ∷ 15 ∷ 6 ∷ 0 ∷ 0 ∷ []) []
-    ∷ row harbourMatch (A ∷ eq ∷ A ∷ B' ∷ []) 1000000 256 256 (0 ∷ 3 ∷ 9 ∷ 5 ∷ 1 ∷ 0 ∷ []) (0 ∷ 0 ∷ 1 ∷ [])
-    ∷ row callItself (A ∷ []) 10 256 256 (12 ∷ 0 ∷ 10 ∷ 10 ∷ 0 ∷ 0 ∷ []) []
-    ∷ row callItself (A ∷ []) 1000 4 256 (13 ∷ 0 ∷ 4 ∷ 4 ∷ 0 ∷ 0 ∷ []) []
-    ∷ row starOfEmpty (A ∷ []) 1000000 256 256 (15 ∷ 0 ∷ 2 ∷ 2 ∷ 0 ∷ 0 ∷ []) []
-    ∷ row defOrExists (A ∷ []) 1000000 256 256 (99 ∷ 0 ∷ 14 ∷ 6 ∷ 0 ∷ 0 ∷ []) []
+    ∷ row harbour_match (A ∷ eq ∷ A ∷ B' ∷ []) 1000000 256 256 (0 ∷ 3 ∷ 9 ∷ 5 ∷ 1 ∷ 0 ∷ []) (0 ∷ 0 ∷ 1 ∷ [])
+    ∷ row call_itself (A ∷ []) 10 256 256 (12 ∷ 0 ∷ 10 ∷ 10 ∷ 0 ∷ 0 ∷ []) []
+    ∷ row call_itself (A ∷ []) 1000 4 256 (13 ∷ 0 ∷ 4 ∷ 4 ∷ 0 ∷ 0 ∷ []) []
+    ∷ row star_of_empty (A ∷ []) 1000000 256 256 (15 ∷ 0 ∷ 2 ∷ 2 ∷ 0 ∷ 0 ∷ []) []
+    ∷ row def_or_exists (A ∷ []) 1000000 256 256 (99 ∷ 0 ∷ 14 ∷ 6 ∷ 0 ∷ 0 ∷ []) []
     ∷ []
 
 -- The six fields and then the slots.
@@ -75,9 +75,9 @@ abbrev expected : Case → List ℕ
 expected c = c.answer ++ (c.slots ++ (replicate (3 * c.R - length c.slots) 0 ++ (7 ∷ [])))
 
 -- THE P CASES.
-pub harbour-cases : map gives harbourCases ≡ map expected harbourCases
+pub harbour_cases_lem : map gives harbour_cases ≡ map expected harbour_cases
 unfolding recognise
-harbour-cases = refl
+harbour_cases_lem = refl
 
 -- ## The entry checks at the ends of their ranges
 
@@ -112,6 +112,6 @@ entries =
 abbrev entered : Entry → List ℕ
 entered e = let c = recognise harbour [] e.B e.D e.R (replicate e.sevens 7) in c.answer.kind ∷ c.slots
 
-pub entry-cases : map entered entries ≡ map (λ e. e.kind ∷ (replicate (e.sevens - e.rest) 0 ++ replicate e.rest 7)) entries
+pub entry_cases : map entered entries ≡ map (λ e. e.kind ∷ (replicate (e.sevens - e.rest) 0 ++ replicate e.rest 7)) entries
 unfolding recognise
-entry-cases = refl
+entry_cases = refl

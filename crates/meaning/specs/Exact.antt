@@ -1,5 +1,5 @@
--- The machine and the rules say the same. `exact`: it comes to an outcome exactly if a derivation within the limits does. `cut-exactly`: it
--- refuses exactly as the run that is cut short. `refused-exactly`: it refuses exactly if no derivation is within the limits.
+-- The machine and the rules say the same. `exact`: it comes to an outcome exactly if a derivation within the limits does. `cut_exactly`: it
+-- refuses exactly as the run that is cut short. `refused_exactly`: it refuses exactly if no derivation is within the limits.
 -- `raised`: raised limits alter no outcome. `at_most_one`: there is at most one outcome and cost.
 use Rattle.std.specs.Prelude.{ℕ, ◌≤◌, max, ◌≡◌, refl, List, ◌↔◌}
 use Rattle.std.proofs.Common.{ap, ◌∙◌, sym, arith}
@@ -10,26 +10,26 @@ use Rattle.meaning.specs.Outcome.{Outcome}
 use Rattle.meaning.specs.Cost.{Cost}
 use Rattle.meaning.specs.Rules.{Derives}
 use Rattle.meaning.specs.Limits.{Within}
-use Rattle.meaning.specs.Cut.{Cut, no_steps, no-depth, no_room, empty_round, cut-first, cut-second, cut-alternative, cut-other, cut-round, cut_later, cut-not, cut-call, cut-def, cut-is, cut-isa, cut-block, cut-local, cut_on}
+use Rattle.meaning.specs.Cut.{Cut, no_steps, no_depth, no_room, empty_round, cut_first, cut_second, cut_alternative, cut_other, cut_round, cut_later, cut_not, cut_call, cut_def, cut_is, cut_isa, cut_block, cut_local, cut_on}
 use Rattle.meaning.specs.Run.{Result, ran, refused, run}
-use Rattle.meaning.specs.Complete.{complete, cut-complete}
+use Rattle.meaning.specs.Complete.{complete, cut_complete}
 use Rattle.meaning.specs.Sound.{All, came, cut, sound}
 
-of-ran : {Q : Outcome → Cost → Type 0} {S : ℕ → ℕ → Cost → Type 0} {o : Outcome} {c : Cost} → All Q S (ran o c) → Q o c
-of-ran (came h) = h
+of_ran : {Q : Outcome → Cost → Type 0} {S : ℕ → ℕ → Cost → Type 0} {o : Outcome} {c : Cost} → All Q S (ran o c) → Q o c
+of_ran (came h) = h
 
-of-refused : {Q : Outcome → Cost → Type 0} {S : ℕ → ℕ → Cost → Type 0} {n p : ℕ} {c : Cost} → All Q S (refused n p c) → S n p c
-of-refused (cut h) = h
+of_refused : {Q : Outcome → Cost → Type 0} {S : ℕ → ℕ → Cost → Type 0} {n p : ℕ} {c : Cost} → All Q S (refused n p c) → S n p c
+of_refused (cut h) = h
 
 module _ (g : Grammar) (x : List ℕ) (v : Env) (e : Expr) (p : ℕ) (σ : State) where
   pub exact : (r d b : ℕ) (o : Outcome) (c : Cost) → (run g x r d b v e p σ ≡ ran o c) ↔ (Derives g x v e p σ o c × Within c d b r)
   exact r d b o c = (
-    (λ h. let s = of-ran (rw h at (sound g x r d b v e p σ)) in (s.derived, s.fits)),
+    (λ h. let s = of_ran (rw h at (sound g x r d b v e p σ)) in (s.derived, s.fits)),
     (λ h. complete g x r h.0 d b h.1),
   )
 
-  pub cut-exactly : (r d b n s : ℕ) (c : Cost) → (run g x r d b v e p σ ≡ refused n s c) ↔ Cut g x r d b v e p σ n s c
-  cut-exactly r d b n s c = ((λ h. of-refused (rw h at (sound g x r d b v e p σ))), cut-complete g x r)
+  pub cut_exactly : (r d b n s : ℕ) (c : Cost) → (run g x r d b v e p σ ≡ refused n s c) ↔ Cut g x r d b v e p σ n s c
+  cut_exactly r d b n s c = ((λ h. of_refused (rw h at (sound g x r d b v e p σ))), cut_complete g x r)
 
   -- A derivation within the limits, whatever its outcome and cost.
   abbrev pub Derivable : (r d b : ℕ) → Type 0
@@ -38,15 +38,15 @@ module _ (g : Grammar) (x : List ℕ) (v : Env) (e : Expr) (p : ℕ) (σ : State
   abbrev pub Stopped : (r d b : ℕ) → Type 0
   Stopped r d b = (n : ℕ) × (s : ℕ) × (c : Cost) × Cut g x r d b v e p σ n s c
 
-  pub refused-exactly : (r d b : ℕ) → Stopped r d b ↔ ¬ (Derivable r d b)
-  refused-exactly r d b = (
-    (λ h k. let z : ◌≡◌ {A = ℕ} 0 1 = cc (cut-complete g x r h.3, complete g x r k.2 d b k.3) in absurd (omega arith)),
+  pub refused_exactly : (r d b : ℕ) → Stopped r d b ↔ ¬ (Derivable r d b)
+  refused_exactly r d b = (
+    (λ h k. let z : ◌≡◌ {A = ℕ} 0 1 = cc (cut_complete g x r h.3, complete g x r k.2 d b k.3) in absurd (omega arith)),
     (λ k. go k (run g x r d b v e p σ) refl),
   )
     where
       go : ¬ (Derivable r d b) → (s : Result) → run g x r d b v e p σ ≡ s → Stopped r d b
       go k (ran o c) h = let s = (exact r d b o c).0 h in absurd (k (o, c, s.0, s.1))
-      go k (refused n s c) h = (n, s, c, (cut-exactly r d b n s c).0 h)
+      go k (refused n s c) h = (n, s, c, (cut_exactly r d b n s c).0 h)
 
   -- Raised limits.
   pub raised :
@@ -65,32 +65,32 @@ module _ (g : Grammar) (x : List ℕ) (v : Env) (e : Expr) (p : ℕ) (σ : State
       (cc, cc)
 
   -- There is at most one way in which a run is cut short: its number, place and cost are fixed.
-  pub one-stop :
+  pub one_stop :
       (r d b n n' s s' : ℕ) (c c' : Cost) → Cut g x r d b v e p σ n s c → Cut g x r d b v e p σ n' s' c' → (n ≡ n') × (s ≡ s') × (c ≡ c')
-  one-stop r d b n n' s s' c c' K L =
-      let one = cut-complete g x r K in
-      let two = cut-complete g x r L in
+  one_stop r d b n n' s s' c c' K L =
+      let one = cut_complete g x r K in
+      let two = cut_complete g x r L in
       (cc, cc, cc)
 
 -- A refusal of a run is one of 12 to 15.
-pub stop-number :
+pub stop_number :
     {g : Grammar} {x : List ℕ} {r d b : ℕ} {v : Env} {e : Expr} {p : ℕ} {σ : State} {n s : ℕ} {c : Cost} → Cut g x r d b v e p σ n s c
     → (12 ≤ n) × (n ≤ 15)
-stop-number no_steps = omega arith
-stop-number no-depth = omega arith
-stop-number (no_room D w h) = omega arith
-stop-number (empty_round D w h) = omega arith
-stop-number (cut-first K) = stop-number K
-stop-number (cut-second D w K) = stop-number K
-stop-number (cut-alternative K) = stop-number K
-stop-number (cut-other D w K) = stop-number K
-stop-number (cut-round K) = stop-number K
-stop-number (cut_later D w h K) = stop-number K
-stop-number (cut-not K) = stop-number K
-stop-number (cut-call K) = stop-number K
-stop-number (cut-def K) = stop-number K
-stop-number (cut-is h K) = stop-number K
-stop-number (cut-isa h K) = stop-number K
-stop-number (cut-block K) = stop-number K
-stop-number (cut-local K) = stop-number K
-stop-number (cut_on K) = stop-number K
+stop_number no_steps = omega arith
+stop_number no_depth = omega arith
+stop_number (no_room D w h) = omega arith
+stop_number (empty_round D w h) = omega arith
+stop_number (cut_first K) = stop_number K
+stop_number (cut_second D w K) = stop_number K
+stop_number (cut_alternative K) = stop_number K
+stop_number (cut_other D w K) = stop_number K
+stop_number (cut_round K) = stop_number K
+stop_number (cut_later D w h K) = stop_number K
+stop_number (cut_not K) = stop_number K
+stop_number (cut_call K) = stop_number K
+stop_number (cut_def K) = stop_number K
+stop_number (cut_is h K) = stop_number K
+stop_number (cut_isa h K) = stop_number K
+stop_number (cut_block K) = stop_number K
+stop_number (cut_local K) = stop_number K
+stop_number (cut_on K) = stop_number K

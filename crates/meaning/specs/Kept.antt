@@ -6,7 +6,7 @@ use Rattle.grammar.specs.Grammar.{Grammar}
 use Rattle.meaning.specs.State.{State, Env, others}
 use Rattle.meaning.specs.Outcome.{Outcome}
 use Rattle.meaning.specs.Cost.{Cost}
-use Rattle.meaning.specs.Rules.{Derives, symbol, empty, byte, range, any, text, seq-first, seq-both, choice-first, choice-second, star-stop, star-more, not, call, def-fail, def-pass, match, is-none, is_some, isa-none, isa-some, exists, block, local, if, on}
+use Rattle.meaning.specs.Rules.{Derives, symbol, empty, byte, range, any, text, seq_first, seq_both, choice_first, choice_second, star_stop, star_more, not, call, def_fail, def_pass, match, is_none_lem, is_some, isa_none, isa_some, exists, block, local, if, on}
 
 module _ (g : Grammar) (x : List ℕ) where
   unfoldable pub kept : {v : Env} {e : Expr} {p : ℕ} {σ : State} {o : Outcome} {c : Cost} → Derives g x v e p σ o c → State
@@ -15,25 +15,25 @@ module _ (g : Grammar) (x : List ℕ) where
   kept range = []
   kept any = []
   kept text = []
-  kept (seq-first D) = []
-  kept (seq-both D E) = kept D ++ kept E
-  kept (choice-first D) = kept D
+  kept (seq_first D) = []
+  kept (seq_both D E) = kept D ++ kept E
+  kept (choice_first D) = kept D
   -- A failed alternative is struck out.
-  kept (choice-second D E) = kept E
+  kept (choice_second D E) = kept E
   -- So is a failed last round,
-  kept (star-stop D) = []
-  kept (star-more D h E) = kept D ++ kept E
+  kept (star_stop D) = []
+  kept (star_more D h E) = kept D ++ kept E
   -- a look-ahead,
   kept (not D) = []
   kept (call D) = kept D
-  kept (def-fail D) = []
+  kept (def_fail D) = []
   -- the inside of a name pattern,
-  kept (def-pass {t = t} {p = p} {q = q} D) = symbol t p q ∷ []
+  kept (def_pass {t = t} {p = p} {q = q} D) = symbol t p q ∷ []
   kept match = []
-  kept (is-none h) = []
+  kept (is_none_lem h) = []
   kept (is_some h D) = []
-  kept (isa-none h) = []
-  kept (isa-some h D) = []
+  kept (isa_none h) = []
+  kept (isa_some h D) = []
   kept exists = []
   -- a scope's definitions in its own table,
   kept (block {t = t} D) = others t (kept D)

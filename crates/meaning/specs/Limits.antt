@@ -4,6 +4,6 @@ use Rattle.meaning.specs.Cost.{Cost}
 
 -- A cost is within a depth, a number of steps and a number of symbols.
 pub record Within (c : Cost) (d b r : ℕ) : Type 0 where
-  pub fits-steps : c.steps ≤ b
-  pub fits-depth : c.depth ≤ d
-  pub fits-room : c.room ≤ r
+  pub fits_steps : c.steps ≤ b
+  pub fits_depth : c.depth ≤ d
+  pub fits_room : c.room ≤ r

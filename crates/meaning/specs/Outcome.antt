@@ -42,9 +42,9 @@ agree false false = true
 
 -- ## What becomes of an outcome
 
-unfoldable pub passIf : Bool → ℕ → State → Outcome
-passIf true q σ = pass q σ
-passIf false q σ = fail
+unfoldable pub pass_if : Bool → ℕ → State → Outcome
+pass_if true q σ = pass q σ
+pass_if false q σ = fail
 
 -- Not: "passes exactly if its body fails. It consumes nothing and leaves the starting state".
 unfoldable pub swap : ℕ → State → Outcome → Outcome
@@ -73,7 +73,7 @@ module _ (x : List ℕ) where
   -- Match: "consumes the latest symbol's bytes exactly; fails on an empty list".
   unfoldable pub matched : ℕ → State → (list : State) → Outcome
   matched p σ [] = fail
-  matched p σ (s ∷ list) = passIf (begins (text s) (drop p x)) (p + length (text s)) σ
+  matched p σ (s ∷ list) = pass_if (begins (text s) (drop p x)) (p + length (text s)) σ
 
   -- Whether some symbol of a list has these bytes.
   abbrev pub among : List ℕ → State → Bool
@@ -82,5 +82,5 @@ module _ (x : List ℕ) where
 
   -- Is and Isa: "drops what that stored, and passes if the consumed bytes equal" a symbol of the list.
   unfoldable pub compared : ℕ → State → (list : State) → Outcome → Outcome
-  compared p σ list (pass q τ) = passIf (among (part p q) list) q σ
+  compared p σ list (pass q τ) = pass_if (among (part p q) list) q σ
   compared p σ list fail = fail

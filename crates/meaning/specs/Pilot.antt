@@ -7,13 +7,13 @@ use mathlib.Core.List.Memᴰ
 use mathlib.Core.List.{List, [], ◌∷◌, ◌++◌, reverse, reverse-cons, Memᴰ}
 use Rattle.grammar.specs.Expr.{Expr, Choice, Star, Not}
 use Rattle.grammar.specs.Grammar.{Grammar, node}
-use Rattle.meaning.specs.State.{Symbol, State, Env, ofTable, others, visible}
+use Rattle.meaning.specs.State.{Symbol, State, Env, of_table, others, visible}
 use Rattle.meaning.specs.Outcome.{Outcome, pass, fail, swap}
 use Rattle.meaning.specs.Cost.{Cost, enter, ◌⊕◌}
-use Rattle.meaning.specs.Rules.{Derives, symbol, empty, byte, range, any, text, seq-first, seq-both, choice-first, choice-second, star-stop, star-more, not, call, def-fail, def-pass, match, is-none, is_some, isa-none, isa-some, exists, block, local, if, on}
+use Rattle.meaning.specs.Rules.{Derives, symbol, empty, byte, range, any, text, seq_first, seq_both, choice_first, choice_second, star_stop, star_more, not, call, def_fail, def_pass, match, is_none_lem, is_some, isa_none, isa_some, exists, block, local, if, on}
 use Rattle.meaning.specs.Kept.{kept}
 use Rattle.meaning.specs.Exact.{at_most_one}
-use Rattle.meaning.specs.Remain.{remain, ends-eq}
+use Rattle.meaning.specs.Remain.{remain, ends_eq}
 
 module _ (g : Grammar) (x : List ℕ) where
   no_both :
@@ -24,35 +24,35 @@ module _ (g : Grammar) (x : List ℕ) where
 
   -- Where a first alternative fails, the choice gives exactly what its second gives from the same place and the same state, whatever
   -- the first one stored on its way.
-  pub choice-after-failure : {v : Env} {a b p : ℕ} {σ : State} {c : Cost} → Derives g x v (node g a) p σ fail c → (o : Outcome) (d : Cost)
+  pub choice_after_failure : {v : Env} {a b p : ℕ} {σ : State} {c : Cost} → Derives g x v (node g a) p σ fail c → (o : Outcome) (d : Cost)
       → Derives g x v (Choice a b) p σ o d ↔ ((d' : Cost) × Derives g x v (node g b) p σ o d' × (d ≡ enter (c ⊕ d')))
-  choice-after-failure {v} {a} {b} {p} {σ} {c} D o d =
-      (there, λ h. subst (λ d. Derives g x v (Choice a b) p σ o d) (sym h.2) (choice-second D h.1))
+  choice_after_failure {v} {a} {b} {p} {σ} {c} D o d =
+      (there, λ h. subst (λ d. Derives g x v (Choice a b) p σ o d) (sym h.2) (choice_second D h.1))
     where
       there :
           {o : Outcome} {d : Cost} → Derives g x v (Choice a b) p σ o d
           → (d' : Cost) × Derives g x v (node g b) p σ o d' × (d ≡ enter (c ⊕ d'))
-      there (choice-first E) = absurd (no_both D E)
-      there (choice-second {c =
+      there (choice_first E) = absurd (no_both D E)
+      there (choice_second {c =
           c'} {d = d'} E F) = (d', F, ap (λ c. enter (c ⊕ d')) (at_most_one g x v (node g a) p σ fail fail c' c E D).1)
 
   -- Where a round of a Star fails, the Star passes at the place and with the state that the rounds before left, whatever the failed round
   -- stored on its way.
-  pub star-after-failure : {v : Env} {a p : ℕ} {σ : State} {c : Cost} → Derives g x v (node g a) p σ fail c → (o : Outcome) (d : Cost)
+  pub star_after_failure : {v : Env} {a p : ℕ} {σ : State} {c : Cost} → Derives g x v (node g a) p σ fail c → (o : Outcome) (d : Cost)
       → Derives g x v (Star a) p σ o d ↔ ((o ≡ pass p σ) × (d ≡ enter c))
-  star-after-failure {v} {a} {p} {σ} {c} D o d =
-      (there, λ h. subst₂ (λ o d. Derives g x v (Star a) p σ o d) (sym h.0) (sym h.1) (star-stop D))
+  star_after_failure {v} {a} {p} {σ} {c} D o d =
+      (there, λ h. subst₂ (λ o d. Derives g x v (Star a) p σ o d) (sym h.0) (sym h.1) (star_stop D))
     where
       there : {o : Outcome} {d : Cost} → Derives g x v (Star a) p σ o d → (o ≡ pass p σ) × (d ≡ enter c)
-      there (star-stop {c = c'} E) = (refl, ap enter (at_most_one g x v (node g a) p σ fail fail c' c E D).1)
-      there (star-more E h F) = absurd (no_both D E)
+      there (star_stop {c = c'} E) = (refl, ap enter (at_most_one g x v (node g a) p σ fail fail c' c E D).1)
+      there (star_more E h F) = absurd (no_both D E)
 
   -- A Not passes exactly if its body fails, and then where it began and with the state that it began with, whatever its body stored.
-  pub not-keeps-nothing : {v : Env} {a p q : ℕ} {σ τ : State} {d : Cost}
+  pub not_keeps_nothing : {v : Env} {a p q : ℕ} {σ τ : State} {d : Cost}
       → Derives g x v (Not a) p σ (pass q τ) d
       ↔ ((q ≡ p) × (τ ≡ σ) × ((c : Cost) × Derives g x v (node g a) p σ fail c × (d ≡ enter c)))
   unfolding swap
-  not-keeps-nothing {v} {a} {p} {q} {σ} {τ} {d} = ((λ D. there D refl), back)
+  not_keeps_nothing {v} {a} {p} {q} {σ} {τ} {d} = ((λ D. there D refl), back)
     where
       Failed : Cost → Type 0
       Failed d = (c : Cost) × Derives g x v (node g a) p σ fail c × (d ≡ enter c)
@@ -69,37 +69,37 @@ module _ (g : Grammar) (x : List ℕ) where
 
 -- ## A name in a list is a name that is held
 
-seen_of : {s : Symbol} (t : ℕ) (σ : State) → Memᴰ s (ofTable t σ) → Memᴰ s σ
+seen_of : {s : Symbol} (t : ℕ) (σ : State) → Memᴰ s (of_table t σ) → Memᴰ s σ
 seen_of t [] m = m
 seen_of {s} t (a ∷ σ) m = go (eqb a.table t) (λ k. seen_of t σ k) m
   where
-    further : (Memᴰ s (ofTable t σ) → Memᴰ s σ) → (s ≡ a) ⊎ Memᴰ s (ofTable t σ) → Memᴰ s (a ∷ σ)
+    further : (Memᴰ s (of_table t σ) → Memᴰ s σ) → (s ≡ a) ⊎ Memᴰ s (of_table t σ) → Memᴰ s (a ∷ σ)
     further f (inl e) = Memᴰ.head e
     further f (inr m) = Memᴰ.tail (f m)
 
     go :
-        (b : Bool) → (Memᴰ s (ofTable t σ) → Memᴰ s σ) → Memᴰ s (elim b [ true ↦ a ∷ ofTable t σ | false ↦ ofTable t σ ])
+        (b : Bool) → (Memᴰ s (of_table t σ) → Memᴰ s σ) → Memᴰ s (elim b [ true ↦ a ∷ of_table t σ | false ↦ of_table t σ ])
         → Memᴰ s (a ∷ σ)
     go true f m = further f (Memᴰ.cases_cons m)
     go false f m = Memᴰ.tail (f m)
 
-seen-drop : {s : Symbol} (n : ℕ) (σ : State) → Memᴰ s (drop n σ) → Memᴰ s σ
-seen-drop zero σ m = m
-seen-drop (suc n) [] m = m
-seen-drop (suc n) (a ∷ σ) m = Memᴰ.tail (seen-drop n σ m)
+seen_drop : {s : Symbol} (n : ℕ) (σ : State) → Memᴰ s (drop n σ) → Memᴰ s σ
+seen_drop zero σ m = m
+seen_drop (suc n) [] m = m
+seen_drop (suc n) (a ∷ σ) m = Memᴰ.tail (seen_drop n σ m)
 
-seen-reverse : {s : Symbol} (σ : State) → Memᴰ s (reverse σ) → Memᴰ s σ
-seen-reverse [] m = m
-seen-reverse {s} (a ∷ σ) m = go (λ k. seen-reverse σ k) (Memᴰ.append_cases (reverse σ) (rw reverse-cons at m))
+seen_reverse : {s : Symbol} (σ : State) → Memᴰ s (reverse σ) → Memᴰ s σ
+seen_reverse [] m = m
+seen_reverse {s} (a ∷ σ) m = go (λ k. seen_reverse σ k) (Memᴰ.append_cases (reverse σ) (rw reverse-cons at m))
   where
     go : (Memᴰ s (reverse σ) → Memᴰ s σ) → Memᴰ s (reverse σ) ⊎ Memᴰ s (a ∷ []) → Memᴰ s (a ∷ σ)
     go f (inl m) = Memᴰ.tail (f m)
     go f (inr m) = Memᴰ.head (Memᴰ.eq_of_singleton m)
 
-pub listed-is-held : (v : Env) (t : ℕ) {s : Symbol} (σ : State) → Memᴰ s (visible v t σ) → Memᴰ s σ
-listed-is-held v t σ m =
-    seen-drop (get_or v.floors t 0) σ
-    (seen_of t (drop (get_or v.floors t 0) σ) (seen-reverse (ofTable t (drop (get_or v.floors t 0) σ)) m))
+pub listed_is_held : (v : Env) (t : ℕ) {s : Symbol} (σ : State) → Memᴰ s (visible v t σ) → Memᴰ s σ
+listed_is_held v t σ m =
+    seen_drop (get_or v.floors t 0) σ
+    (seen_of t (drop (get_or v.floors t 0) σ) (seen_reverse (of_table t (drop (get_or v.floors t 0) σ)) m))
 
 -- ## A name that only an abandoned alternative defined
 
@@ -148,21 +148,21 @@ module _ (g : Grammar) (x : List ℕ) where
   made range = []
   made any = []
   made text = []
-  made (seq-first D) = made D
-  made (seq-both D E) = made D ++ made E
-  made (choice-first D) = made D
-  made (choice-second D E) = made D ++ made E
-  made (star-stop D) = made D
-  made (star-more D h E) = made D ++ made E
+  made (seq_first D) = made D
+  made (seq_both D E) = made D ++ made E
+  made (choice_first D) = made D
+  made (choice_second D E) = made D ++ made E
+  made (star_stop D) = made D
+  made (star_more D h E) = made D ++ made E
   made (not D) = made D
   made (call D) = made D
-  made (def-fail D) = made D
-  made (def-pass {t = t} {p = p} {q = q} D) = made D ++ (symbol t p q ∷ [])
+  made (def_fail D) = made D
+  made (def_pass {t = t} {p = p} {q = q} D) = made D ++ (symbol t p q ∷ [])
   made match = []
-  made (is-none h) = []
+  made (is_none_lem h) = []
   made (is_some h D) = made D
-  made (isa-none h) = []
-  made (isa-some h D) = made D
+  made (isa_none h) = []
+  made (isa_some h D) = made D
   made exists = []
   made (block D) = made D
   made (local D) = made D
@@ -170,34 +170,34 @@ module _ (g : Grammar) (x : List ℕ) where
   made (on D) = made D
 
   -- What remains was made.
-  pub kept-made : {v : Env} {e : Expr} {p : ℕ} {σ : State} {o : Outcome} {c : Cost} (D : Derives g x v e p σ o c) (s : Symbol)
+  pub kept_made : {v : Env} {e : Expr} {p : ℕ} {σ : State} {o : Outcome} {c : Cost} (D : Derives g x v e p σ o c) (s : Symbol)
       → Memᴰ s (kept g x D) → Memᴰ s (made D)
   unfolding kept made
-  kept-made empty s m = m
-  kept-made byte s m = m
-  kept-made range s m = m
-  kept-made any s m = m
-  kept-made text s m = m
-  kept-made (seq-first D) s m = none m
-  kept-made (seq-both D E) s m = either (kept g x D) (kept g x E) (made D) (made E) (λ m. kept-made D s m) (λ m. kept-made E s m) m
-  kept-made (choice-first D) s m = kept-made D s m
-  kept-made (choice-second D E) s m = in_right (made D) (made E) (kept-made E s m)
-  kept-made (star-stop D) s m = none m
-  kept-made (star-more D h E) s m = either (kept g x D) (kept g x E) (made D) (made E) (λ m. kept-made D s m) (λ m. kept-made E s m) m
-  kept-made (not D) s m = none m
-  kept-made (call D) s m = kept-made D s m
-  kept-made (def-fail D) s m = none m
-  kept-made (def-pass D) s m = in_right (made D) _ m
-  kept-made match s m = m
-  kept-made (is-none h) s m = m
-  kept-made (is_some h D) s m = none m
-  kept-made (isa-none h) s m = m
-  kept-made (isa-some h D) s m = none m
-  kept-made exists s m = m
-  kept-made (block {t = t} D) s m = kept-made D s (not_own t (kept g x D) m)
-  kept-made (local {t = t} D) s m = kept-made D s (not_own t (kept g x D) m)
-  kept-made if s m = m
-  kept-made (on D) s m = none m
+  kept_made empty s m = m
+  kept_made byte s m = m
+  kept_made range s m = m
+  kept_made any s m = m
+  kept_made text s m = m
+  kept_made (seq_first D) s m = none m
+  kept_made (seq_both D E) s m = either (kept g x D) (kept g x E) (made D) (made E) (λ m. kept_made D s m) (λ m. kept_made E s m) m
+  kept_made (choice_first D) s m = kept_made D s m
+  kept_made (choice_second D E) s m = in_right (made D) (made E) (kept_made E s m)
+  kept_made (star_stop D) s m = none m
+  kept_made (star_more D h E) s m = either (kept g x D) (kept g x E) (made D) (made E) (λ m. kept_made D s m) (λ m. kept_made E s m) m
+  kept_made (not D) s m = none m
+  kept_made (call D) s m = kept_made D s m
+  kept_made (def_fail D) s m = none m
+  kept_made (def_pass D) s m = in_right (made D) _ m
+  kept_made match s m = m
+  kept_made (is_none_lem h) s m = m
+  kept_made (is_some h D) s m = none m
+  kept_made (isa_none h) s m = m
+  kept_made (isa_some h D) s m = none m
+  kept_made exists s m = m
+  kept_made (block {t = t} D) s m = kept_made D s (not_own t (kept g x D) m)
+  kept_made (local {t = t} D) s m = kept_made D s (not_own t (kept g x D) m)
+  kept_made if s m = m
+  kept_made (on D) s m = none m
 
   -- THE PILOT'S QUESTION. A name that a failed first alternative made, that was not held before, and that the second alternative did not make:
   -- after the choice it is in no table's list, whatever is hidden.
@@ -205,8 +205,8 @@ module _ (g : Grammar) (x : List ℕ) where
       (E : Derives g x v (node g b) p σ (pass q τ) d) (s : Symbol) → Memᴰ s (made D)
       → (Memᴰ s σ → ⊥) → (Memᴰ s (made E) → ⊥) → (w : Env) (t : ℕ) → Memᴰ s (visible w t τ) → ⊥
   abandoned a b {σ =
-      σ} {τ = τ} D E s only old new w t m = among (Memᴰ.append_cases σ (rw (ends-eq g x (remain g x E)) at (listed-is-held w t τ m)))
+      σ} {τ = τ} D E s only old new w t m = among (Memᴰ.append_cases σ (rw (ends_eq g x (remain g x E)) at (listed_is_held w t τ m)))
     where
       among : Memᴰ s σ ⊎ Memᴰ s (kept g x E) → ⊥
       among (inl m) = old m
-      among (inr m) = new (kept-made E s m)
+      among (inr m) = new (kept_made E s m)

@@ -3,7 +3,7 @@ use Rattle.std.specs.Prelude.{ℕ, zero, suc, ◌+◌, ◌-◌, Bool, true, fals
 use Rattle.grammar.specs.Expr.{Expr, Empty, Byte, Range, Any, Text, Sequence, Choice, Star, Not, Call, Def, Match, Is, Isa, Exists, Block, Local, If, On}
 use Rattle.grammar.specs.Grammar.{Grammar, node}
 use Rattle.meaning.specs.State.{State, Env, visible, hide, switch}
-use Rattle.meaning.specs.Outcome.{Outcome, pass, fail, begins, some, in_range, agree, passIf, swap, restored, closed, matched, compared}
+use Rattle.meaning.specs.Outcome.{Outcome, pass, fail, begins, some, in_range, agree, pass_if, swap, restored, closed, matched, compared}
 use Rattle.meaning.specs.Cost.{Cost, nothing, enter, ◌⊕◌, holding}
 use Rattle.meaning.specs.Rules.{named, symbol}
 
@@ -27,21 +27,21 @@ after c (ran o d) = ran o (c ⊕ d)
 after c (refused n p d) = refused n p (c ⊕ d)
 
 -- Go on where it passed; go on where it failed.
-abbrev pub onPass : (ℕ → State → Cost → Result) → Outcome → Cost → Result
-onPass k (pass q τ) c = k q τ c
-onPass k fail c = ran fail c
+abbrev pub on_pass : (ℕ → State → Cost → Result) → Outcome → Cost → Result
+on_pass k (pass q τ) c = k q τ c
+on_pass k fail c = ran fail c
 
-abbrev pub onFail : (Cost → Result) → Outcome → Cost → Result
-onFail k (pass q τ) c = ran (pass q τ) c
-onFail k fail c = k c
+abbrev pub on_fail : (Cost → Result) → Outcome → Cost → Result
+on_fail k (pass q τ) c = ran (pass q τ) c
+on_fail k fail c = k c
 
 -- A round that passed is refused if it consumed nothing, else the rest of the rounds follow; a round that failed ends the Star.
-abbrev pub ifConsumed : Bool → ℕ → Cost → (Unit {0} → Result) → Result
-ifConsumed true p c k = k tt
-ifConsumed false p c k = refused 15 p c
+abbrev pub if_consumed : Bool → ℕ → Cost → (Unit {0} → Result) → Result
+if_consumed true p c k = k tt
+if_consumed false p c k = refused 15 p c
 
 abbrev pub round : ℕ → State → (ℕ → State → Cost → Result) → Outcome → Cost → Result
-round p σ k (pass q τ) c = ifConsumed (ltb p q) p c (λ u. k q τ c)
+round p σ k (pass q τ) c = if_consumed (ltb p q) p c (λ u. k q τ c)
 round p σ k fail c = ran (pass p σ) c
 
 -- The rounds of a Star with b steps left; `f b p σ` runs its body. The first number is at least b, and only there to count down: it
@@ -58,32 +58,32 @@ module _ (g : Grammar) (x : List ℕ) (room : ℕ) where
   stored false t p σ q c = refused 14 p c
 
   -- Is and Isa: an empty list fails without running the pattern.
-  abbrev pub ifAny : Bool → (Unit {0} → Result) → Result
-  ifAny true k = k tt
-  ifAny false k = ran fail nothing
+  abbrev pub if_any : Bool → (Unit {0} → Result) → Result
+  if_any true k = k tt
+  if_any false k = ran fail nothing
 
   -- An expression that was entered, with b steps left; `f` runs what stands inside it.
   abbrev pub entered : (ℕ → Env → Expr → ℕ → State → Result) → ℕ → Env → Expr → ℕ → State → Result
   entered f b v Empty p σ = ran (pass p σ) (enter nothing)
-  entered f b v (Byte n) p σ = ran (passIf (begins (n ∷ []) (drop p x)) (p + 1) σ) (enter nothing)
-  entered f b v (Range lo hi) p σ = ran (passIf (in_range lo hi (drop p x)) (p + 1) σ) (enter nothing)
-  entered f b v Any p σ = ran (passIf (some (drop p x)) (p + 1) σ) (enter nothing)
-  entered f b v (Text bytes) p σ = ran (passIf (begins bytes (drop p x)) (p + length bytes) σ) (enter nothing)
-  entered f b v (Sequence i j) p σ = charge (next (f b v (node g i) p σ) (onPass (λ q τ c. after c (f (b - c.steps) v (node g j) q τ))))
-  entered f b v (Choice i j) p σ = charge (next (f b v (node g i) p σ) (onFail (λ c. after c (f (b - c.steps) v (node g j) p σ))))
+  entered f b v (Byte n) p σ = ran (pass_if (begins (n ∷ []) (drop p x)) (p + 1) σ) (enter nothing)
+  entered f b v (Range lo hi) p σ = ran (pass_if (in_range lo hi (drop p x)) (p + 1) σ) (enter nothing)
+  entered f b v Any p σ = ran (pass_if (some (drop p x)) (p + 1) σ) (enter nothing)
+  entered f b v (Text bytes) p σ = ran (pass_if (begins bytes (drop p x)) (p + length bytes) σ) (enter nothing)
+  entered f b v (Sequence i j) p σ = charge (next (f b v (node g i) p σ) (on_pass (λ q τ c. after c (f (b - c.steps) v (node g j) q τ))))
+  entered f b v (Choice i j) p σ = charge (next (f b v (node g i) p σ) (on_fail (λ c. after c (f (b - c.steps) v (node g j) p σ))))
   entered f b v (Star i) p σ = rounds (λ k q τ. f k v (node g i) q τ) (suc b) (suc b) p σ
   entered f b v (Not i) p σ = charge (next (f b v (node g i) p σ) (λ o c. ran (swap p σ o) c))
   entered f b v (Call i) p σ = charge (f b v (node g i) p σ)
-  entered f b v (Def t) p σ = charge (next (f b v (named g t) p σ) (onPass (λ q τ c. stored (ltb (length σ) room) t p σ q c)))
+  entered f b v (Def t) p σ = charge (next (f b v (named g t) p σ) (on_pass (λ q τ c. stored (ltb (length σ) room) t p σ q c)))
   entered f b v (Match t) p σ = ran (matched x p σ (visible v t σ)) (enter nothing)
   entered f b v (Is t) p σ =
-      charge (ifAny (some (visible v t σ)) (λ u. next (f b v (named g t) p σ) (λ o c. ran (compared x p σ (take 1 (visible v t σ)) o) c)))
+      charge (if_any (some (visible v t σ)) (λ u. next (f b v (named g t) p σ) (λ o c. ran (compared x p σ (take 1 (visible v t σ)) o) c)))
   entered f b v (Isa t) p σ =
-      charge (ifAny (some (visible v t σ)) (λ u. next (f b v (named g t) p σ) (λ o c. ran (compared x p σ (visible v t σ) o) c)))
-  entered f b v (Exists t) p σ = ran (passIf (some (visible v t σ)) p σ) (enter nothing)
+      charge (if_any (some (visible v t σ)) (λ u. next (f b v (named g t) p σ) (λ o c. ran (compared x p σ (visible v t σ) o) c)))
+  entered f b v (Exists t) p σ = ran (pass_if (some (visible v t σ)) p σ) (enter nothing)
   entered f b v (Block t i) p σ = charge (next (f b v (node g i) p σ) (λ o c. ran (closed t σ o) c))
   entered f b v (Local t i) p σ = charge (next (f b (hide v t σ) (node g i) p σ) (λ o c. ran (closed t σ o) c))
-  entered f b v (If k w) p σ = ran (passIf (agree (get_or v.truths k true) w) p σ) (enter nothing)
+  entered f b v (If k w) p σ = ran (pass_if (agree (get_or v.truths k true) w) p σ) (enter nothing)
   entered f b v (On k w i) p σ = charge (next (f b (switch v k w) (node g i) p σ) (λ o c. ran (restored σ o) c))
 
   -- With depth d and b steps left. "On entry the step limit is looked at first, then the depth limit".

@@ -10,12 +10,12 @@ use Rattle.std.proofs.Math.Seq.{drop-append_seam}
 use Rattle.std.proofs.lemmas.Bool.{eqb-false}
 use Rattle.grammar.specs.Expr.{Expr, Block, Local, On}
 use Rattle.grammar.specs.Grammar.{Grammar, node}
-use Rattle.meaning.specs.State.{Symbol, State, Env, outset, ofTable, others, visible, hide, switch}
+use Rattle.meaning.specs.State.{Symbol, State, Env, outset, of_table, others, visible, hide, switch}
 use Rattle.meaning.specs.Outcome.{Outcome, pass, fail, closed, restored}
 use Rattle.meaning.specs.Cost.{Cost}
 use Rattle.meaning.specs.Rules.{Derives, block, local, on}
 use Rattle.meaning.specs.Kept.{kept}
-use Rattle.meaning.specs.Remain.{remain, ends-eq}
+use Rattle.meaning.specs.Remain.{remain, ends_eq}
 
 -- No table hides more symbols than are held.
 abbrev pub Floored : Env → State → Type 0
@@ -23,80 +23,80 @@ Floored v σ = (t : ℕ) → get_or v.floors t 0 ≤ length σ
 
 -- ## Tables
 
-pub of-append : (t : ℕ) (σ τ : State) → ofTable t (σ ++ τ) ≡ ofTable t σ ++ ofTable t τ
-of-append t [] τ = refl
-of-append t (s ∷ σ) τ = go (eqb s.table t) (of-append t σ τ)
+pub of_append : (t : ℕ) (σ τ : State) → of_table t (σ ++ τ) ≡ of_table t σ ++ of_table t τ
+of_append t [] τ = refl
+of_append t (s ∷ σ) τ = go (eqb s.table t) (of_append t σ τ)
   where
-    go : (b : Bool) → ofTable t (σ ++ τ) ≡ ofTable t σ ++ ofTable t τ
-        → (elim b [ true ↦ s ∷ ofTable t (σ ++ τ) | false ↦ ofTable t (σ ++ τ) ])
-        ≡ (elim b [ true ↦ s ∷ ofTable t σ | false ↦ ofTable t σ ]) ++ ofTable t τ
+    go : (b : Bool) → of_table t (σ ++ τ) ≡ of_table t σ ++ of_table t τ
+        → (elim b [ true ↦ s ∷ of_table t (σ ++ τ) | false ↦ of_table t (σ ++ τ) ])
+        ≡ (elim b [ true ↦ s ∷ of_table t σ | false ↦ of_table t σ ]) ++ of_table t τ
     go true e = ap (λ l. s ∷ l) e
     go false e = e
 
-own_out : (t : ℕ) (σ : State) → ofTable t (others t σ) ≡ []
+own_out : (t : ℕ) (σ : State) → of_table t (others t σ) ≡ []
 own_out t [] = refl
 own_out t (s ∷ σ) = go (eqb s.table t) refl (own_out t σ)
   where
     go :
-        (b : Bool) → eqb s.table t ≡ b → ofTable t (others t σ) ≡ []
-        → ofTable t (elim b [ true ↦ others t σ | false ↦ s ∷ others t σ ]) ≡ []
+        (b : Bool) → eqb s.table t ≡ b → of_table t (others t σ) ≡ []
+        → of_table t (elim b [ true ↦ others t σ | false ↦ s ∷ others t σ ]) ≡ []
     go true e h = h
-    go false e h = rw (e, ofTable) h
+    go false e h = rw (e, of_table) h
 
-other-in : (u t : ℕ) → (u ≡ t → ⊥) → (σ : State) → ofTable u (others t σ) ≡ ofTable u σ
-other-in u t n [] = refl
-other-in u t n (s ∷ σ) = go (eqb s.table t) refl (other-in u t n σ)
+other_in : (u t : ℕ) → (u ≡ t → ⊥) → (σ : State) → of_table u (others t σ) ≡ of_table u σ
+other_in u t n [] = refl
+other_in u t n (s ∷ σ) = go (eqb s.table t) refl (other_in u t n σ)
   where
-    go : (b : Bool) → eqb s.table t ≡ b → ofTable u (others t σ) ≡ ofTable u σ
-        → ofTable u (elim b [ true ↦ others t σ | false ↦ s ∷ others t σ ]) ≡ ofTable u (s ∷ σ)
-    go true e h = rw (ne_eqb s.table u (λ q. n (sym q ∙ eqb-true s.table t e)), ofTable) h
+    go : (b : Bool) → eqb s.table t ≡ b → of_table u (others t σ) ≡ of_table u σ
+        → of_table u (elim b [ true ↦ others t σ | false ↦ s ∷ others t σ ]) ≡ of_table u (s ∷ σ)
+    go true e h = rw (ne_eqb s.table u (λ q. n (sym q ∙ eqb-true s.table t e)), of_table) h
     go false e h = ap (λ l. elim (eqb s.table u) [ true ↦ s ∷ l | false ↦ l ]) h
 
 -- A table's list after more was stored, where nothing of that is hidden.
 seen_more :
     (v : Env) (u : ℕ) (σ l : State) → Floored v σ
-    → visible v u (σ ++ l) ≡ reverse (ofTable u (drop (get_or v.floors u 0) σ) ++ ofTable u l)
+    → visible v u (σ ++ l) ≡ reverse (of_table u (drop (get_or v.floors u 0) σ) ++ of_table u l)
 seen_more v u σ l f =
-    ap reverse (ap (ofTable u) (drop-append-le (get_or v.floors u 0) σ l (f u)) ∙ of-append u (drop (get_or v.floors u 0) σ) l)
+    ap reverse (ap (of_table u) (drop-append-le (get_or v.floors u 0) σ l (f u)) ∙ of_append u (drop (get_or v.floors u 0) σ) l)
 
 -- ## The laws
 
 -- A Local's own list is empty at its start, and every other table's list is as it was.
-pub local-starts-empty : (v : Env) (t : ℕ) (σ : State) → t < length v.floors → visible (hide v t σ) t σ ≡ []
-local-starts-empty v t σ h = rw (get_or-set_same v.floors t (length σ) 0 h, drop_of_length-le σ {i = length σ} (omega arith))
+pub local_starts_empty : (v : Env) (t : ℕ) (σ : State) → t < length v.floors → visible (hide v t σ) t σ ≡ []
+local_starts_empty v t σ h = rw (get_or-set_same v.floors t (length σ) 0 h, drop_of_length-le σ {i = length σ} (omega arith))
 
-pub local-leaves-others : (v : Env) (t u : ℕ) (σ τ : State) → (u ≡ t → ⊥) → visible (hide v t σ) u τ ≡ visible v u τ
-local-leaves-others v t u σ τ n = rw (get_or-set_other v.floors t u (length σ) 0 n)
+pub local_leaves_others : (v : Env) (t u : ℕ) (σ τ : State) → (u ≡ t → ⊥) → visible (hide v t σ) u τ ≡ visible v u τ
+local_leaves_others v t u σ τ n = rw (get_or-set_other v.floors t u (length σ) 0 n)
 
 module _ (g : Grammar) (x : List ℕ) where
   -- The state in which a scope of table t is left, its body having come to τ.
   abbrev pub left : ℕ → State → State → State
   left t σ τ = σ ++ others t (drop (length σ) τ)
 
-  pub scope-is-left : (t : ℕ) (σ τ : State) (q : ℕ) → closed t σ (pass q τ) ≡ pass q (left t σ τ)
+  pub scope_is_left : (t : ℕ) (σ τ : State) (q : ℕ) → closed t σ (pass q τ) ≡ pass q (left t σ τ)
   unfolding closed
-  scope-is-left t σ τ q = refl
+  scope_is_left t σ τ q = refl
 
   module _ (v : Env) {w : Env} {e : Expr} {p q : ℕ} {σ τ : State} {c : Cost} (D : Derives g x w e p σ (pass q τ) c)
       (f : Floored v σ) where
     -- After a Block or a Local its own table's list is as it was before.
-    pub own-list-back : (t : ℕ) → visible v t (left t σ τ) ≡ visible v t σ
-    own-list-back t =
+    pub own_list_back : (t : ℕ) → visible v t (left t σ τ) ≡ visible v t σ
+    own_list_back t =
         seen_more v t σ (others t (drop (length σ) τ)) f
-        ∙ rw (own_out t (drop (length σ) τ), append-nil (ofTable t (drop (get_or v.floors t 0) σ)))
+        ∙ rw (own_out t (drop (length σ) τ), append-nil (of_table t (drop (get_or v.floors t 0) σ)))
 
     -- Every other table's list is as the body left it.
-    pub other-lists-stay : (t u : ℕ) → (u ≡ t → ⊥) → visible v u (left t σ τ) ≡ visible v u τ
-    other-lists-stay t u n =
-        let more : τ ≡ σ ++ kept g x D = ends-eq g x (remain g x D) in
+    pub other_lists_stay : (t u : ℕ) → (u ≡ t → ⊥) → visible v u (left t σ τ) ≡ visible v u τ
+    other_lists_stay t u n =
+        let more : τ ≡ σ ++ kept g x D = ends_eq g x (remain g x D) in
         seen_more v u σ (others t (drop (length σ) τ)) f
-        ∙ ap (λ l. reverse (ofTable u (drop (get_or v.floors u 0) σ) ++ l)) (other-in u t n (drop (length σ) τ)
-        ∙ ap (ofTable u) (ap (drop (length σ)) more ∙ drop-append_seam σ (kept g x D)))
+        ∙ ap (λ l. reverse (of_table u (drop (get_or v.floors u 0) σ) ++ l)) (other_in u t n (drop (length σ) τ)
+        ∙ ap (of_table u) (ap (drop (length σ)) more ∙ drop-append_seam σ (kept g x D)))
         ∙ sym (ap (visible v u) more ∙ seen_more v u σ (kept g x D) f)
 
     -- No floor lies above the symbols held after a pass.
-    pub floored-after : Floored v τ
-    floored-after t = omega (arith, f t, simp length-append at (ap length (ends-eq g x (remain g x D))))
+    pub floored_after : Floored v τ
+    floored_after t = omega (arith, f t, simp length-append at (ap length (ends_eq g x (remain g x D))))
 
   -- ## Block, Local, On
 
@@ -113,34 +113,34 @@ module _ (g : Grammar) (x : List ℕ) where
   leaves v w t a p q σ υ f (pass r τ) c D e =
       let end : r ≡ q = cc in
       let state : left t σ τ ≡ υ = cc in (
-        ap (visible v t) (sym state) ∙ own-list-back v D f t,
+        ap (visible v t) (sym state) ∙ own_list_back v D f t,
         τ,
         c,
         subst (λ r. Derives g x w (node g a) p σ (pass r τ) c) end D,
-        λ u n. ap (visible v u) (sym state) ∙ other-lists-stay v D f t u n,
+        λ u n. ap (visible v u) (sym state) ∙ other_lists_stay v D f t u n,
       )
   leaves v w t a p q σ υ f fail c D e = let z : ◌≡◌ {A = ℕ} 0 1 = cc in absurd (omega arith)
 
   -- "Block runs a and then puts back its own table's list. Other tables keep what a stored."
-  pub block-leaves : {v : Env} {t a p q : ℕ} {σ υ : State} {c : Cost}
+  pub block_leaves : {v : Env} {t a p q : ℕ} {σ υ : State} {c : Cost}
       → Derives g x v (Block t a) p σ (pass q υ) c → Floored v σ → Leaves v v t a p q σ υ
-  block-leaves {v} {t} {a} {p} {q} {σ} {υ} D f = go D refl
+  block_leaves {v} {t} {a} {p} {q} {σ} {υ} D f = go D refl
     where
       go : {o : Outcome} {c : Cost} → Derives g x v (Block t a) p σ o c → o ≡ pass q υ → Leaves v v t a p q σ υ
       go (block {o = o} {c = c} D) e = leaves v v t a p q σ υ f o c D e
 
   -- "Local does so too, with that list empty at the start."
-  pub local-leaves : {v : Env} {t a p q : ℕ} {σ υ : State} {c : Cost} → Derives g x v (Local t a) p σ (pass q υ) c → Floored v σ
+  pub local_leaves : {v : Env} {t a p q : ℕ} {σ υ : State} {c : Cost} → Derives g x v (Local t a) p σ (pass q υ) c → Floored v σ
       → t < length v.floors → (visible (hide v t σ) t σ ≡ []) × Leaves v (hide v t σ) t a p q σ υ
-  local-leaves {v} {t} {a} {p} {q} {σ} {υ} D f h = (local-starts-empty v t σ h, go D refl)
+  local_leaves {v} {t} {a} {p} {q} {σ} {υ} D f h = (local_starts_empty v t σ h, go D refl)
     where
       go : {o : Outcome} {c : Cost} → Derives g x v (Local t a) p σ o c → o ≡ pass q υ → Leaves v (hide v t σ) t a p q σ υ
       go (local {o = o} {c = c} D) e = leaves v (hide v t σ) t a p q σ υ f o c D e
 
   -- "on leaving On all lists are as they were on entering."
-  pub on-leaves : {v : Env} {k a p q : ℕ} {w : Bool} {σ τ : State} {c : Cost} → Derives g x v (On k w a) p σ (pass q τ) c → τ ≡ σ
+  pub on_leaves : {v : Env} {k a p q : ℕ} {w : Bool} {σ τ : State} {c : Cost} → Derives g x v (On k w a) p σ (pass q τ) c → τ ≡ σ
   unfolding restored
-  on-leaves {v} {k} {a} {p} {q} {w} {σ} {τ} D = go D refl
+  on_leaves {v} {k} {a} {p} {q} {w} {σ} {τ} D = go D refl
     where
       same : (o : Outcome) → restored σ o ≡ pass q τ → τ ≡ σ
       same (pass r υ) e = cc
@@ -150,22 +150,22 @@ module _ (g : Grammar) (x : List ℕ) where
       go (on {o = o} D) e = same o e
 
 -- Inside an On its condition has the named truth, and every other the truth that it had.
-pub on-switches : (v : Env) (k : ℕ) (w : Bool) → k < length v.truths → get_or (switch v k w).truths k true ≡ w
-on-switches v k w h = get_or-set_same v.truths k w true h
+pub on_switches : (v : Env) (k : ℕ) (w : Bool) → k < length v.truths → get_or (switch v k w).truths k true ≡ w
+on_switches v k w h = get_or-set_same v.truths k w true h
 
-pub on-leaves-others : (v : Env) (k j : ℕ) (w : Bool) → (j ≡ k → ⊥) → get_or (switch v k w).truths j true ≡ get_or v.truths j true
-on-leaves-others v k j w n = get_or-set_other v.truths k j w true n
+pub on_leaves_others : (v : Env) (k j : ℕ) (w : Bool) → (j ≡ k → ⊥) → get_or (switch v k w).truths j true ≡ get_or v.truths j true
+on_leaves_others v k j w n = get_or-set_other v.truths k j w true n
 
 -- Every table keeps its floor and every condition its truth.
-pub hide-long : (v : Env) (t : ℕ) (σ : State) → length (hide v t σ).floors ≡ length v.floors
-hide-long v t σ = length-set v.floors t (length σ)
+pub hide_long : (v : Env) (t : ℕ) (σ : State) → length (hide v t σ).floors ≡ length v.floors
+hide_long v t σ = length-set v.floors t (length σ)
 
-pub switch-long : (v : Env) (k : ℕ) (w : Bool) → length (switch v k w).truths ≡ length v.truths
-switch-long v k w = length-set v.truths k w
+pub switch_long : (v : Env) (k : ℕ) (w : Bool) → length (switch v k w).truths ≡ length v.truths
+switch_long v k w = length-set v.truths k w
 
 -- No floor lies above the symbols held where a Local or an On begins, nor at the start.
-pub floored-hide : (v : Env) (t : ℕ) (σ : State) → Floored v σ → Floored (hide v t σ) σ
-floored-hide v t σ f u = go (eqb u t) refl
+pub floored_hide : (v : Env) (t : ℕ) (σ : State) → Floored v σ → Floored (hide v t σ) σ
+floored_hide v t σ f u = go (eqb u t) refl
   where
     past : (l : List ℕ) (k n : ℕ) → n ≤ length σ → get_or (set l k (length σ)) k 0 ≤ length σ
     past [] k n h = omega arith
@@ -176,11 +176,11 @@ floored-hide v t σ f u = go (eqb u t) refl
     go true e = rw (eqb-true u t e) (past v.floors t 0 (omega arith))
     go false e = rw (get_or-set_other v.floors t u (length σ) 0 (eqb-false u t e)) (f u)
 
-pub floored-switch : (v : Env) (k : ℕ) (truth : Bool) (σ : State) → Floored v σ → Floored (switch v k truth) σ
-floored-switch v k truth σ f = f
+pub floored_switch : (v : Env) (k : ℕ) (truth : Bool) (σ : State) → Floored v σ → Floored (switch v k truth) σ
+floored_switch v k truth σ f = f
 
-pub floored-outset : Floored outset []
-floored-outset t = zeros t
+pub floored_outset : Floored outset []
+floored_outset t = zeros t
   where
     zeros : (t : ℕ) → get_or outset.floors t 0 ≤ 0
     zeros zero = omega arith

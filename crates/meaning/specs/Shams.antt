@@ -2,8 +2,8 @@
 use Rattle.std.specs.Prelude.{ℕ, ◌+◌, ◌-◌, ◌*◌, ◌≤◌, ◌≡◌, refl, ◌⊎◌, List, [], ◌∷◌, ◌++◌, length, get_or, replicate}
 use Rattle.std.proofs.Common.{ap, ◌∙◌, sym, inl, inr, arith}
 use Rattle.grammar.specs.Grammar.{Grammar}
-use Rattle.format.specs.Image.{readImage, good}
-use Rattle.format.specs.Cases.{harbour, harbourGrammar, harbour-read}
+use Rattle.format.specs.Image.{read_image, good}
+use Rattle.format.specs.Cases.{harbour, harbour_grammar, harbour_read}
 use Rattle.meaning.specs.State.{State}
 use Rattle.meaning.specs.Outcome.{pass}
 use Rattle.meaning.specs.Cost.{Cost}
@@ -11,7 +11,7 @@ use Rattle.meaning.specs.Limits.{Within}
 use Rattle.meaning.specs.Steps.{used}
 use Rattle.meaning.specs.Kept.{kept}
 use Rattle.meaning.specs.Recognise.{Answer, Called, flat, filled, recognise}
-use Rattle.meaning.specs.Demands.{Entered, Recognises, Accepts, Demand2, Demand3, demand-2, demand-3}
+use Rattle.meaning.specs.Demands.{Entered, Recognises, Accepts, Demand2, Demand3, demand_2, demand_3}
 
 -- `A=A` and `AB=AB` against image H, with limits that are just enough.
 abbrev one : List ℕ
@@ -20,79 +20,79 @@ one = 0x41 ∷ 0x3D ∷ 0x41 ∷ []
 abbrev two : List ℕ
 two = 0x41 ∷ 0x42 ∷ 0x3D ∷ 0x41 ∷ 0x42 ∷ []
 
-one-entered : Entered harbour harbourGrammar one 13 6 1 (0 ∷ 0 ∷ 0 ∷ [])
-one-entered = record {
-  image-good = harbour-read;
-  input-short = omega arith;
+one_entered : Entered harbour harbour_grammar one 13 6 1 (0 ∷ 0 ∷ 0 ∷ [])
+one_entered = record {
+  image_good = harbour_read;
+  input_short = omega arith;
   ranges = record {
-    some-steps = omega arith;
-    few-steps = omega arith;
-    some-depth = omega arith;
-    small-depth = omega arith;
-    small-room = omega arith;
+    some_steps = omega arith;
+    few_steps = omega arith;
+    some_depth = omega arith;
+    small_depth = omega arith;
+    small_room = omega arith;
   };
-  slots-enough = omega arith;
+  slots_enough = omega arith;
 }
 
-two-entered : Entered harbour harbourGrammar two 17 6 1 (0 ∷ 0 ∷ 0 ∷ [])
-two-entered = record {
-  image-good = harbour-read;
-  input-short = omega arith;
+two_entered : Entered harbour harbour_grammar two 17 6 1 (0 ∷ 0 ∷ 0 ∷ [])
+two_entered = record {
+  image_good = harbour_read;
+  input_short = omega arith;
   ranges = record {
-    some-steps = omega arith;
-    few-steps = omega arith;
-    some-depth = omega arith;
-    small-depth = omega arith;
-    small-room = omega arith;
+    some_steps = omega arith;
+    few_steps = omega arith;
+    some_depth = omega arith;
+    small_depth = omega arith;
+    small_room = omega arith;
   };
-  slots-enough = omega arith;
+  slots_enough = omega arith;
 }
 
 -- The rules derive both, within those limits.
-one-accepted : Accepts harbourGrammar one 13 6 1 3
+one_accepted : Accepts harbour_grammar one 13 6 1 3
 unfolding recognise
-one-accepted = ((demand-2 one-entered).accepts 3).0 (refl, refl)
+one_accepted = ((demand_2 one_entered).accepts 3).0 (refl, refl)
 
-two-accepted : Accepts harbourGrammar two 17 6 1 5
+two_accepted : Accepts harbour_grammar two 17 6 1 5
 unfolding recognise
-two-accepted = ((demand-2 two-entered).accepts 5).0 (refl, refl)
+two_accepted = ((demand_2 two_entered).accepts 5).0 (refl, refl)
 
 -- One that accepts nothing: it refuses all grammars, with whatever number, or it fails every input.
-pub accepts-nothing : (a : Answer) → (a.kind ≡ 0 → ⊥) → Demand2 harbourGrammar one 13 6 1 a → ⊥
-accepts-nothing a h d = h ((d.accepts 3).1 one-accepted).0
+pub accepts_nothing : (a : Answer) → (a.kind ≡ 0 → ⊥) → Demand2 harbour_grammar one 13 6 1 a → ⊥
+accepts_nothing a h d = h ((d.accepts 3).1 one_accepted).0
 
 -- Where the first symbol ends does not hang on what the buffer held before.
-first-end : (l : State) (before : List ℕ) → length l ≡ 1 → get_or (filled 1 l before) 2 0 ≡ get_or (filled 1 l (0 ∷ 0 ∷ 0 ∷ [])) 2 0
-first-end [] before h = absurd (omega arith)
-first-end (s ∷ l) before h = refl
+first_end : (l : State) (before : List ℕ) → length l ≡ 1 → get_or (filled 1 l before) 2 0 ≡ get_or (filled 1 l (0 ∷ 0 ∷ 0 ∷ [])) 2 0
+first_end [] before h = absurd (omega arith)
+first_end (s ∷ l) before h = refl
 
 -- One that stores nothing: it counts no symbol, or its slots do not say where the symbol ends. Whatever the buffer held before.
-pub stores-nothing : (a : Answer) (before after : List ℕ) → (a.symbols ≡ 0) ⊎ (get_or after 2 0 ≡ 1 → ⊥)
-    → Demand3 harbourGrammar one 13 6 1 a before after → ⊥
+pub stores_nothing : (a : Answer) (before after : List ℕ) → (a.symbols ≡ 0) ⊎ (get_or after 2 0 ≡ 1 → ⊥)
+    → Demand3 harbour_grammar one 13 6 1 a before after → ⊥
 unfolding recognise
-stores-nothing a before after h d =
-    let s = one-accepted in
-    let truth = (demand-3 one-entered).symbols 3 s.0 s.1 s.2 s.3 in
+stores_nothing a before after h d =
+    let s = one_accepted in
+    let truth = (demand_3 one_entered).symbols 3 s.0 s.1 s.2 s.3 in
     let mine = d.symbols 3 s.0 s.1 s.2 s.3 in
     said h (mine.0 ∙ sym truth.0)
-    (ap (λ l. get_or l 2 0) mine.1 ∙ first-end (kept harbourGrammar one s.2) before (sym truth.0) ∙ sym (ap (λ l. get_or l 2 0) truth.1))
+    (ap (λ l. get_or l 2 0) mine.1 ∙ first_end (kept harbour_grammar one s.2) before (sym truth.0) ∙ sym (ap (λ l. get_or l 2 0) truth.1))
   where
     said : (a.symbols ≡ 0) ⊎ (get_or after 2 0 ≡ 1 → ⊥) → a.symbols ≡ 1 → get_or after 2 0 ≡ 1 → ⊥
     said (inl n) one end = omega arith
     said (inr n) one end = n end
 
 -- One that runs only the first round of a Star and makes the rest up: it fails, or it consumes or counts what the derivation does not.
-pub makes-up-the-end :
-    (a : Answer) → ((a.kind ≡ 0) × (a.consumed ≡ 5) × (a.steps ≡ 17) → ⊥) → Demand2 harbourGrammar two 17 6 1 a → ⊥
+pub makes_up_the_end :
+    (a : Answer) → ((a.kind ≡ 0) × (a.consumed ≡ 5) × (a.steps ≡ 17) → ⊥) → Demand2 harbour_grammar two 17 6 1 a → ⊥
 unfolding recognise
-makes-up-the-end a n d =
-    let s = two-accepted in
+makes_up_the_end a n d =
+    let s = two_accepted in
     let k = (d.accepts 5).1 s in
-    n (k.0, k.1, d.counts (pass 5 s.0) s.1 s.2 s.3 ∙ sym ((demand-2 two-entered).counts (pass 5 s.0) s.1 s.2 s.3))
+    n (k.0, k.1, d.counts (pass 5 s.0) s.1 s.2 s.3 ∙ sym ((demand_2 two_entered).counts (pass 5 s.0) s.1 s.2 s.3))
 
 -- One that invents the step count.
-pub invents-steps : (a : Answer) → (a.steps ≡ 17 → ⊥) → Demand2 harbourGrammar two 17 6 1 a → ⊥
-invents-steps a n d = makes-up-the-end a (λ h. n h.2) d
+pub invents_steps : (a : Answer) → (a.steps ≡ 17 → ⊥) → Demand2 harbour_grammar two 17 6 1 a → ⊥
+invents_steps a n d = makes_up_the_end a (λ h. n h.2) d
 
 -- ## The same of machines
 
@@ -110,18 +110,18 @@ Meets3 m =
     (image : List ℕ) (g : Grammar) (x : List ℕ) (B D R : ℕ) (slots : List ℕ) → Entered image g x B D R slots
     → Demand3 g x B D R (m.says image x B D R slots).answer slots (m.says image x B D R slots).slots
 
-abbrev threeZeros : List ℕ
-threeZeros = 0 ∷ 0 ∷ 0 ∷ []
+abbrev three_zeros : List ℕ
+three_zeros = 0 ∷ 0 ∷ 0 ∷ []
 
-pub never-accepts : (m : Machine)
+pub never_accepts : (m : Machine)
     → ((image x : List ℕ) (B D R : ℕ) (slots : List ℕ) → (m.says image x B D R slots).answer.kind ≡ 0 → ⊥) → Meets2 m → ⊥
-never-accepts m h meets =
-    accepts-nothing (m.says harbour one 13 6 1 threeZeros).answer (h harbour one 13 6 1 threeZeros)
-    (meets harbour harbourGrammar one 13 6 1 threeZeros one-entered)
+never_accepts m h meets =
+    accepts_nothing (m.says harbour one 13 6 1 three_zeros).answer (h harbour one 13 6 1 three_zeros)
+    (meets harbour harbour_grammar one 13 6 1 three_zeros one_entered)
 
-pub never-stores : (m : Machine)
+pub never_stores : (m : Machine)
     → ((image x : List ℕ) (B D R : ℕ) (slots : List ℕ) → (m.says image x B D R slots).answer.symbols ≡ 0) → Meets3 m → ⊥
-never-stores m h meets =
-    let k = m.says harbour one 13 6 1 threeZeros in
-    stores-nothing k.answer threeZeros k.slots (inl (h harbour one 13 6 1 threeZeros))
-    (meets harbour harbourGrammar one 13 6 1 threeZeros one-entered)
+never_stores m h meets =
+    let k = m.says harbour one 13 6 1 three_zeros in
+    stores_nothing k.answer three_zeros k.slots (inl (h harbour one 13 6 1 three_zeros))
+    (meets harbour harbour_grammar one 13 6 1 three_zeros one_entered)

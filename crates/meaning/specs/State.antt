@@ -24,9 +24,9 @@ abbrev pub outset : Env
 outset = record { truths = replicate 8 true; floors = replicate 8 0 }
 
 -- The symbols of a table, and those of the others.
-abbrev pub ofTable : ℕ → State → State
-ofTable t [] = []
-ofTable t (s ∷ σ) = elim (eqb s.table t) [ true ↦ s ∷ ofTable t σ | false ↦ ofTable t σ ]
+abbrev pub of_table : ℕ → State → State
+of_table t [] = []
+of_table t (s ∷ σ) = elim (eqb s.table t) [ true ↦ s ∷ of_table t σ | false ↦ of_table t σ ]
 
 abbrev pub others : ℕ → State → State
 others t [] = []
@@ -34,7 +34,7 @@ others t (s ∷ σ) = elim (eqb s.table t) [ true ↦ others t σ | false ↦ s 
 
 -- The list of a table as an expression sees it, latest first.
 abbrev pub visible : Env → ℕ → State → State
-visible v t σ = reverse (ofTable t (drop (get_or v.floors t 0) σ))
+visible v t σ = reverse (of_table t (drop (get_or v.floors t 0) σ))
 
 -- Inside a Local of table t everything held so far is hidden from t: "with that list empty at the start".
 abbrev pub hide : Env → ℕ → State → Env

@@ -3,9 +3,9 @@
 use Rattle.std.specs.Prelude.{ℕ, ◌≡◌, refl, true, false, List, [], ◌∷◌, ◌++◌, map}
 use Rattle.grammar.specs.Expr.{Expr, Empty, Byte, Range, Any, Text, Sequence, Choice, Star, Not, Call, Def, Match, Is, Isa, Exists, Block, Local, If, On}
 use Rattle.grammar.specs.Grammar.{Grammar}
-use Rattle.meaning.specs.Outcome.{pass, fail, passIf, swap, restored, closed, matched, compared}
+use Rattle.meaning.specs.Outcome.{pass, fail, pass_if, swap, restored, closed, matched, compared}
 use Rattle.meaning.specs.Run.{Result, ran, refused, rounds, run}
-use Rattle.meaning.specs.Recognise.{Answer, answer_of, flat, fromStart}
+use Rattle.meaning.specs.Recognise.{Answer, answer_of, flat, from_start}
 
 -- Nodes, patterns, start, input, B, D, R; then kind, consumed, steps, depth, symbols, place; then the symbols held.
 record Trial : Type 0 where
@@ -269,9 +269,9 @@ fields a = a.kind ∷ a.consumed ∷ a.steps ∷ a.depth ∷ a.symbols ∷ a.pla
 
 abbrev gives : Trial → List ℕ
 gives t =
-    fields (answer_of (fromStart t.grammar t.input t.B t.D t.R)) ++ held
-    (fromStart t.grammar t.input t.B t.D t.R)
+    fields (answer_of (from_start t.grammar t.input t.B t.D t.R)) ++ held
+    (from_start t.grammar t.input t.B t.D t.R)
 
-all-trials : map gives trials ≡ map (λ t. t.answer ++ t.symbols) trials
-unfolding run rounds passIf swap restored closed matched compared
-all-trials = refl
+all_trials : map gives trials ≡ map (λ t. t.answer ++ t.symbols) trials
+unfolding run rounds pass_if swap restored closed matched compared
+all_trials = refl

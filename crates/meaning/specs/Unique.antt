@@ -8,7 +8,7 @@ use Rattle.grammar.specs.Grammar.{Grammar, node}
 use Rattle.meaning.specs.State.{State, Env, visible}
 use Rattle.meaning.specs.Outcome.{Outcome, pass, fail, swap, restored, closed, compared}
 use Rattle.meaning.specs.Cost.{Cost, nothing, enter, ◌⊕◌, holding}
-use Rattle.meaning.specs.Rules.{Derives, named, symbol, empty, byte, range, any, text, seq-first, seq-both, choice-first, choice-second, star-stop, star-more, not, call, def-fail, def-pass, match, is-none, is_some, isa-none, isa-some, exists, block, local, if, on}
+use Rattle.meaning.specs.Rules.{Derives, named, symbol, empty, byte, range, any, text, seq_first, seq_both, choice_first, choice_second, star_stop, star_more, not, call, def_fail, def_pass, match, is_none_lem, is_some, isa_none, isa_some, exists, block, local, if, on}
 
 pub true≢false : ◌≡◌ {A = Bool} true false → ⊥
 true≢false e = let z : ◌≡◌ {A = ℕ} 0 1 = cc in omega arith
@@ -25,14 +25,14 @@ module _ (g : Grammar) (x : List ℕ) where
     Split P Q (pass q τ) c D = P q τ c D
     Split P Q fail c D = Q c D
 
-    along-pass : {q q' : ℕ} {τ τ' : State} {c c' : Cost} {D : Derives g x v e p σ (pass q τ) c} {E : Derives g x v e p σ (pass q' τ') c'}
+    along_pass : {q q' : ℕ} {τ τ' : State} {c c' : Cost} {D : Derives g x v e p σ (pass q τ) c} {E : Derives g x v e p σ (pass q' τ') c'}
         → ◌≡◌ {A = Some v e p σ} (pass q τ, c, D) (pass q' τ', c', E)
         → (P : (q : ℕ) (τ : State) (c : Cost) → Derives g x v e p σ (pass q τ) c → Type 0) → P q τ c D → P q' τ' c' E
-    along-pass z P h = subst (λ (s : Some v e p σ). Split P (λ c D. Unit) s.0 s.1 s.2) z h
+    along_pass z P h = subst (λ (s : Some v e p σ). Split P (λ c D. Unit) s.0 s.1 s.2) z h
 
-    along-fail : {c c' : Cost} {D : Derives g x v e p σ fail c} {E : Derives g x v e p σ fail c'}
+    along_fail : {c c' : Cost} {D : Derives g x v e p σ fail c} {E : Derives g x v e p σ fail c'}
         → ◌≡◌ {A = Some v e p σ} (fail, c, D) (fail, c', E) → (P : (c : Cost) → Derives g x v e p σ fail c → Type 0) → P c D → P c' E
-    along-fail z P h = subst (λ (s : Some v e p σ). Split (λ q τ c D. Unit) P s.0 s.1 s.2) z h
+    along_fail z P h = subst (λ (s : Some v e p σ). Split (λ q τ c D. Unit) P s.0 s.1 s.2) z h
 
     apart :
         {q : ℕ} {τ : State} {c c' : Cost} {D : Derives g x v e p σ (pass q τ) c} {E : Derives g x v e p σ fail c'}
@@ -47,62 +47,62 @@ module _ (g : Grammar) (x : List ℕ) where
   unique range range = refl
   unique any any = refl
   unique text text = refl
-  unique (seq-first {v = v} {a = a} {b = b} {p = p} {σ = σ} {c = c} D) (seq-first E) =
-      along-fail (unique D E) (λ c' E. ◌≡◌ {A =
-      Some v (Sequence a b) p σ} (fail, enter c, seq-first D) (fail, enter c', seq-first E)) refl
-  unique (seq-first D) (seq-both E F) = absurd (apart (sym (unique D E)))
-  unique (seq-both D F) (seq-first E) = absurd (apart (unique D E))
-  unique (seq-both {v = v} {a = a} {b = b} {p = p} {σ = σ} {o = o} {c = c} {d = d} D F) (seq-both {o = o'} {d = d'} E H) =
-      along-pass (unique D E) (λ q τ c' E. (H : Derives g x v (node g b) q τ o' d') → ◌≡◌ {A =
-      Some v (Sequence a b) p σ} (o, enter (c ⊕ d), seq-both D F) (o', enter (c' ⊕ d'), seq-both E H))
-      (λ H. ap {B = Some v (Sequence a b) p σ} (λ s. (s.0, enter (c ⊕ s.1), seq-both D s.2)) (unique F H)) H
-  unique (choice-first {v = v} {a = a} {b = b} {p = p} {q = q} {σ = σ} {τ = τ} {c = c} D) (choice-first E) =
-      along-pass (unique D E) (λ q' τ' c' E. ◌≡◌ {A =
-      Some v (Choice a b) p σ} (pass q τ, enter c, choice-first D) (pass q' τ', enter c', choice-first E)) refl
-  unique (choice-first D) (choice-second E F) = absurd (apart (unique D E))
-  unique (choice-second D F) (choice-first E) = absurd (apart (sym (unique D E)))
-  unique (choice-second {v = v} {a = a} {b = b} {p = p} {σ = σ} {o = o} {c = c} {d = d} D F) (choice-second {o = o'} {d = d'} E H) =
-      along-fail (unique D E) (λ c' E. ◌≡◌ {A =
-      Some v (Choice a b) p σ} (o, enter (c ⊕ d), choice-second D F) (o', enter (c' ⊕ d'), choice-second E H))
-      (ap {B = Some v (Choice a b) p σ} (λ s. (s.0, enter (c ⊕ s.1), choice-second D s.2)) (unique F H))
-  unique (star-stop {v = v} {a = a} {p = p} {σ = σ} {c = c} D) (star-stop E) =
-      along-fail (unique D E) (λ c' E. ◌≡◌ {A =
-      Some v (Star a) p σ} (pass p σ, enter c, star-stop D) (pass p σ, enter c', star-stop E)) refl
-  unique (star-stop D) (star-more E h F) = absurd (apart (sym (unique D E)))
-  unique (star-more D h F) (star-stop E) = absurd (apart (unique D E))
-  unique (star-more {v = v} {a = a} {p = p} {σ = σ} {o = o} {c = c} {d = d} D h F) (star-more {o = o'} {d = d'} E h' H) =
-      along-pass (unique D E) (λ q τ c' E. (h' : p < q) (H : Derives g x v (Star a) q τ o' d') → ◌≡◌ {A =
-      Some v (Star a) p σ} (o, enter c ⊕ d, star-more D h F) (o', enter c' ⊕ d', star-more E h' H))
-      (λ h' H. ap {B = Some v (Star a) p σ} (λ s. (s.0, enter c ⊕ s.1, star-more D h s.2)) (unique F H)
-      ∙ ap {B = Some v (Star a) p σ} (λ k. (o', enter c ⊕ d', star-more D k H)) (le_prop h h')) h' H
+  unique (seq_first {v = v} {a = a} {b = b} {p = p} {σ = σ} {c = c} D) (seq_first E) =
+      along_fail (unique D E) (λ c' E. ◌≡◌ {A =
+      Some v (Sequence a b) p σ} (fail, enter c, seq_first D) (fail, enter c', seq_first E)) refl
+  unique (seq_first D) (seq_both E F) = absurd (apart (sym (unique D E)))
+  unique (seq_both D F) (seq_first E) = absurd (apart (unique D E))
+  unique (seq_both {v = v} {a = a} {b = b} {p = p} {σ = σ} {o = o} {c = c} {d = d} D F) (seq_both {o = o'} {d = d'} E H) =
+      along_pass (unique D E) (λ q τ c' E. (H : Derives g x v (node g b) q τ o' d') → ◌≡◌ {A =
+      Some v (Sequence a b) p σ} (o, enter (c ⊕ d), seq_both D F) (o', enter (c' ⊕ d'), seq_both E H))
+      (λ H. ap {B = Some v (Sequence a b) p σ} (λ s. (s.0, enter (c ⊕ s.1), seq_both D s.2)) (unique F H)) H
+  unique (choice_first {v = v} {a = a} {b = b} {p = p} {q = q} {σ = σ} {τ = τ} {c = c} D) (choice_first E) =
+      along_pass (unique D E) (λ q' τ' c' E. ◌≡◌ {A =
+      Some v (Choice a b) p σ} (pass q τ, enter c, choice_first D) (pass q' τ', enter c', choice_first E)) refl
+  unique (choice_first D) (choice_second E F) = absurd (apart (unique D E))
+  unique (choice_second D F) (choice_first E) = absurd (apart (sym (unique D E)))
+  unique (choice_second {v = v} {a = a} {b = b} {p = p} {σ = σ} {o = o} {c = c} {d = d} D F) (choice_second {o = o'} {d = d'} E H) =
+      along_fail (unique D E) (λ c' E. ◌≡◌ {A =
+      Some v (Choice a b) p σ} (o, enter (c ⊕ d), choice_second D F) (o', enter (c' ⊕ d'), choice_second E H))
+      (ap {B = Some v (Choice a b) p σ} (λ s. (s.0, enter (c ⊕ s.1), choice_second D s.2)) (unique F H))
+  unique (star_stop {v = v} {a = a} {p = p} {σ = σ} {c = c} D) (star_stop E) =
+      along_fail (unique D E) (λ c' E. ◌≡◌ {A =
+      Some v (Star a) p σ} (pass p σ, enter c, star_stop D) (pass p σ, enter c', star_stop E)) refl
+  unique (star_stop D) (star_more E h F) = absurd (apart (sym (unique D E)))
+  unique (star_more D h F) (star_stop E) = absurd (apart (unique D E))
+  unique (star_more {v = v} {a = a} {p = p} {σ = σ} {o = o} {c = c} {d = d} D h F) (star_more {o = o'} {d = d'} E h' H) =
+      along_pass (unique D E) (λ q τ c' E. (h' : p < q) (H : Derives g x v (Star a) q τ o' d') → ◌≡◌ {A =
+      Some v (Star a) p σ} (o, enter c ⊕ d, star_more D h F) (o', enter c' ⊕ d', star_more E h' H))
+      (λ h' H. ap {B = Some v (Star a) p σ} (λ s. (s.0, enter c ⊕ s.1, star_more D h s.2)) (unique F H)
+      ∙ ap {B = Some v (Star a) p σ} (λ k. (o', enter c ⊕ d', star_more D k H)) (le_prop h h')) h' H
   unique (not {v =
       v} {a = a} {p = p} {σ = σ} D) (not E) = ap {B = Some v (Not a) p σ} (λ s. (swap p σ s.0, enter s.1, not s.2)) (unique D E)
   unique (call {v =
       v} {a = a} {p = p} {σ = σ} D) (call E) = ap {B = Some v (Call a) p σ} (λ s. (s.0, enter s.1, call s.2)) (unique D E)
-  unique (def-fail {v = v} {t = t} {p = p} {σ = σ} {c = c} D) (def-fail E) =
-      along-fail (unique D E) (λ c' E. ◌≡◌ {A = Some v (Def t) p σ} (fail, enter c, def-fail D) (fail, enter c', def-fail E)) refl
-  unique (def-fail D) (def-pass E) = absurd (apart (sym (unique D E)))
-  unique (def-pass D) (def-fail E) = absurd (apart (unique D E))
-  unique (def-pass {v = v} {t = t} {p = p} {q = q} {σ = σ} {c = c} D) (def-pass E) =
-      along-pass (unique D E) (λ q' τ' c' E. ◌≡◌ {A =
-      Some v (Def t) p σ} (pass q (σ ++ (symbol t p q ∷ [])), enter (c ⊕ holding σ), def-pass D)
-      (pass q' (σ ++ (symbol t p q' ∷ [])), enter (c' ⊕ holding σ), def-pass E)) refl
+  unique (def_fail {v = v} {t = t} {p = p} {σ = σ} {c = c} D) (def_fail E) =
+      along_fail (unique D E) (λ c' E. ◌≡◌ {A = Some v (Def t) p σ} (fail, enter c, def_fail D) (fail, enter c', def_fail E)) refl
+  unique (def_fail D) (def_pass E) = absurd (apart (sym (unique D E)))
+  unique (def_pass D) (def_fail E) = absurd (apart (unique D E))
+  unique (def_pass {v = v} {t = t} {p = p} {q = q} {σ = σ} {c = c} D) (def_pass E) =
+      along_pass (unique D E) (λ q' τ' c' E. ◌≡◌ {A =
+      Some v (Def t) p σ} (pass q (σ ++ (symbol t p q ∷ [])), enter (c ⊕ holding σ), def_pass D)
+      (pass q' (σ ++ (symbol t p q' ∷ [])), enter (c' ⊕ holding σ), def_pass E)) refl
   unique match match = refl
-  unique (is-none {v =
-      v} {t = t} {p = p} {σ = σ} h) (is-none h') = ap {B = Some v (Is t) p σ} (λ k. (fail, enter nothing, is-none k)) (Bool-set _ _ h h')
-  unique (is-none h) (is_some h' E) = absurd (true≢false (sym h' ∙ h))
-  unique (is_some h D) (is-none h') = absurd (true≢false (sym h ∙ h'))
+  unique (is_none_lem {v =
+      v} {t = t} {p = p} {σ = σ} h) (is_none_lem h') = ap {B = Some v (Is t) p σ} (λ k. (fail, enter nothing, is_none_lem k)) (Bool-set _ _ h h')
+  unique (is_none_lem h) (is_some h' E) = absurd (true≢false (sym h' ∙ h))
+  unique (is_some h D) (is_none_lem h') = absurd (true≢false (sym h ∙ h'))
   unique (is_some {v = v} {t = t} {p = p} {σ = σ} h D) (is_some {o = o'} {c = c'} h' E) =
       ap {B = Some v (Is t) p σ} (λ s. (compared x p σ (take 1 (visible v t σ)) s.0, enter s.1, is_some h s.2)) (unique D E)
       ∙ ap {B = Some v (Is t) p σ} (λ k. (compared x p σ (take 1 (visible v t σ)) o', enter c', is_some k E)) (Bool-set _ _ h h')
-  unique (isa-none {v =
-      v} {t = t} {p = p} {σ = σ} h) (isa-none h') = ap {B = Some v (Isa t) p σ} (λ k. (fail, enter nothing, isa-none k))
+  unique (isa_none {v =
+      v} {t = t} {p = p} {σ = σ} h) (isa_none h') = ap {B = Some v (Isa t) p σ} (λ k. (fail, enter nothing, isa_none k))
       (Bool-set _ _ h h')
-  unique (isa-none h) (isa-some h' E) = absurd (true≢false (sym h' ∙ h))
-  unique (isa-some h D) (isa-none h') = absurd (true≢false (sym h ∙ h'))
-  unique (isa-some {v = v} {t = t} {p = p} {σ = σ} h D) (isa-some {o = o'} {c = c'} h' E) =
-      ap {B = Some v (Isa t) p σ} (λ s. (compared x p σ (visible v t σ) s.0, enter s.1, isa-some h s.2)) (unique D E)
-      ∙ ap {B = Some v (Isa t) p σ} (λ k. (compared x p σ (visible v t σ) o', enter c', isa-some k E)) (Bool-set _ _ h h')
+  unique (isa_none h) (isa_some h' E) = absurd (true≢false (sym h' ∙ h))
+  unique (isa_some h D) (isa_none h') = absurd (true≢false (sym h ∙ h'))
+  unique (isa_some {v = v} {t = t} {p = p} {σ = σ} h D) (isa_some {o = o'} {c = c'} h' E) =
+      ap {B = Some v (Isa t) p σ} (λ s. (compared x p σ (visible v t σ) s.0, enter s.1, isa_some h s.2)) (unique D E)
+      ∙ ap {B = Some v (Isa t) p σ} (λ k. (compared x p σ (visible v t σ) o', enter c', isa_some k E)) (Bool-set _ _ h h')
   unique exists exists = refl
   unique (block {v =
       v} {t = t} {a = a} {p = p} {σ = σ} D) (block E) = ap {B = Some v (Block t a) p σ}

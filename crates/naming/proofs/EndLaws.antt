@@ -12,10 +12,10 @@ use Rattle.notation.specs.Token.{Token, head, Lexeme, bare}
 use Rattle.notation.specs.Notation.{Level, Reads, Productions, last, more}
 use Rattle.notation.specs.LexicalText.{no_way}
 use Rattle.notation.specs.Compile.{count}
-use Rattle.notation.specs.Counts.{weightOf, weightIn}
+use Rattle.notation.specs.Counts.{weight_of, weight_in}
 use Rattle.notation.specs.CountLaws.{weighs}
-use Rattle.notation.specs.Uses.{perToken, headsIn, head_of}
-use Rattle.notation.specs.UsesLaws.{no-heads}
+use Rattle.notation.specs.Uses.{per_token, heads_in, head_of}
+use Rattle.notation.specs.UsesLaws.{no_heads}
 use Rattle.notation.specs.Places.{isHead, only}
 
 -- A production that has ended: what is kept of its head, and the nodes up to its end.
@@ -27,8 +27,8 @@ pub record Ended (A : Type 0) : Type 0 where
 abbrev pub ends : {A : Type 0} → A → (nodes weight : ℕ) → List (Ended A)
 ends x nodes weight = pick (eqb weight 0) [] (record { head = x; nodes = nodes + (weight - 1) } ∷ [])
 
-not-head : (t : Token) → head_of t ≡ [] → isHead t ≡ false
-not-head t e = rw (e, isHead)
+not_head : (t : Token) → head_of t ≡ [] → isHead t ≡ false
+not_head t e = rw (e, isHead)
 
 module _ {A : Type 0} (keep : Lexeme → A) where
   -- From the open production on: a head ends it and opens the next, and each other token adds its weight.
@@ -36,7 +36,7 @@ module _ {A : Type 0} (keep : Lexeme → A) where
   endings x nodes weight [] = ends x nodes weight
   endings x nodes weight (l ∷ ls) =
       pick (isHead l.token) (ends x nodes weight ++ endings (keep l) (nodes + (weight - 1)) 0 ls)
-      (endings x nodes (weight + weightOf l.token) ls)
+      (endings x nodes (weight + weight_of l.token) ls)
 
   -- Productions with their heads.
   unfoldable pub headed : (nodes : ℕ) → List Production → (heads : List Lexeme) → List (Ended A)
@@ -52,10 +52,10 @@ module _ {A : Type 0} (keep : Lexeme → A) where
     rest : List Lexeme
     is : bare rest ≡ us
     heads : only isHead ls ≡ only isHead rest
-    on : (x : A) (nodes weight : ℕ) → endings x nodes weight ls ≡ endings x nodes (weight + weightIn ts) rest
+    on : (x : A) (nodes weight : ℕ) → endings x nodes weight ls ≡ endings x nodes (weight + weight_in ts) rest
 
-  behind : (ts us : List Token) (ls : List Lexeme) → bare ls ≡ ts ++ us → headsIn ts ≡ [] → Behind ts us ls
-  unfolding weightIn perToken endings only
+  behind : (ts us : List Token) (ls : List Lexeme) → bare ls ≡ ts ++ us → heads_in ts ≡ [] → Behind ts us ls
+  unfolding weight_in per_token endings only
   behind [] us ls e h = record {
     rest = ls;
     is = e;
@@ -69,14 +69,14 @@ module _ {A : Type 0} (keep : Lexeme → A) where
       both [] ys e = (refl, e)
       both (x ∷ xs) ys e = no_way (cc)
 
-      none : (head_of t ≡ []) × (headsIn ts ≡ [])
-      none = both (head_of t) (headsIn ts) h
+      none : (head_of t ≡ []) × (heads_in ts ≡ [])
+      none = both (head_of t) (heads_in ts) h
 
       first : l.token ≡ t
       first = cc
 
       other : isHead l.token ≡ false
-      other = not-head l.token (ap head_of first ∙ none.0)
+      other = not_head l.token (ap head_of first ∙ none.0)
 
       go : Behind ts us ls → Behind (t ∷ ts) us (l ∷ ls)
       go B = record {
@@ -84,25 +84,25 @@ module _ {A : Type 0} (keep : Lexeme → A) where
         is = B.is;
         heads = rw other B.heads;
         on = λ x k w.
-            rw other (B.on x k (w + weightOf l.token) ∙ ap (λ v. endings x k v B.rest) (omega (arith, ap weightOf first)));
+            rw other (B.on x k (w + weight_of l.token) ∙ ap (λ v. endings x k v B.rest) (omega (arith, ap weight_of first)));
       }
 
   -- An expression's tokens, behind the production's head.
   body : {ℓ : Level} {ts : List Token} {a : Tree} → Reads ℓ ts a → (us : List Token) (ls : List Lexeme) → bare ls ≡ ts ++ us → Behind ts us ls
-  body {ts = ts} D us ls e = behind ts us ls e (no-heads D)
+  body {ts = ts} D us ls e = behind ts us ls e (no_heads D)
 
-  body-ends : {ℓ : Level} {ts : List Token} {a : Tree} → Reads ℓ ts a → (x : A) (k : ℕ) → ends x k (0 + weightIn ts) ≡ record { head = x; nodes = k + count a } ∷ []
-  body-ends {ts = ts} {a = a} D x k =
-      let e : 0 + weightIn ts ≡ suc (count a) = omega (arith, weighs D) in
+  body_ends : {ℓ : Level} {ts : List Token} {a : Tree} → Reads ℓ ts a → (x : A) (k : ℕ) → ends x k (0 + weight_in ts) ≡ record { head = x; nodes = k + count a } ∷ []
+  body_ends {ts = ts} {a = a} D x k =
+      let e : 0 + weight_in ts ≡ suc (count a) = omega (arith, weighs D) in
       let f : suc (count a) - 1 ≡ count a = omega arith in
       rw (e, ne_eqb (suc (count a)) 0 (λ z. omega arith), f)
 
-  pub endings-are :
+  pub endings_are :
       {ts : List Token} {ps : List Production} → Productions ts ps → (ls : List Lexeme) → bare ls ≡ ts → (x : A) (k w : ℕ)
       → endings x k w ls ≡ ends x k w ++ headed (k + (w - 1)) ps (only isHead ls)
   unfolding endings headed only
-  endings-are (last {n = n} {ts = ts} {a = a} D) [] e x k w = no_way (cc)
-  endings-are (last {n = n} {ts = ts} {a = a} D) (l ∷ ls) e x k w = go (body D [] ls (rw append-nil (cc)))
+  endings_are (last {n = n} {ts = ts} {a = a} D) [] e x k w = no_way (cc)
+  endings_are (last {n = n} {ts = ts} {a = a} D) (l ∷ ls) e x k w = go (body D [] ls (rw append-nil (cc)))
     where
       first : isHead l.token ≡ true
       first = let z : l.token ≡ head n = cc in ap isHead z
@@ -115,10 +115,10 @@ module _ {A : Type 0} (keep : Lexeme → A) where
       go B =
           let z = nothing B.rest B.is in
           rw first
-          (ap (λ r. ends x k w ++ r) (B.on (keep l) (k + (w - 1)) 0 ∙ rw z (body-ends D (keep l) (k + (w - 1)))))
-  endings-are (more {n = n} {ts = ts} {us = us} {a = a} {ps = ps} D P) [] e x k w = no_way (cc)
-  endings-are (more {n = n} {ts = ts} {us = us} {a = a} {ps = ps} D P) (l ∷ ls) e x k w =
-      go (body D us ls (cc)) (λ ls e x k w. endings-are P ls e x k w)
+          (ap (λ r. ends x k w ++ r) (B.on (keep l) (k + (w - 1)) 0 ∙ rw z (body_ends D (keep l) (k + (w - 1)))))
+  endings_are (more {n = n} {ts = ts} {us = us} {a = a} {ps = ps} D P) [] e x k w = no_way (cc)
+  endings_are (more {n = n} {ts = ts} {us = us} {a = a} {ps = ps} D P) (l ∷ ls) e x k w =
+      go (body D us ls (cc)) (λ ls e x k w. endings_are P ls e x k w)
     where
       first : isHead l.token ≡ true
       first = let z : l.token ≡ head n = cc in ap isHead z
@@ -129,9 +129,9 @@ module _ {A : Type 0} (keep : Lexeme → A) where
           → endings x k w (l ∷ ls) ≡ ends x k w ++ headed (k + (w - 1)) (record { name = n; body = a } ∷ ps) (only isHead (l ∷ ls))
       go B ih =
           let j = k + (w - 1) in
-          let i = 0 + weightIn ts in
+          let i = 0 + weight_in ts in
           let f : j + (i - 1) ≡ j + count a = omega (arith, weighs D) in
           rw first
           (ap (λ r. ends x k w ++ r)
           (B.on (keep l) j 0 ∙ ih B.rest B.is (keep l) j i
-          ∙ rw (body-ends D (keep l) j, f, ← B.heads)))
+          ∙ rw (body_ends D (keep l) j, f, ← B.heads)))

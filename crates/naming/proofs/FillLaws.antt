@@ -12,16 +12,16 @@ use Rattle.notation.specs.Tree.{Name}
 use Rattle.notation.specs.Token.{head, bad, Lexeme}
 use Rattle.notation.specs.Naming.{member}
 use Rattle.notation.specs.Compile.{place, Entry}
-use Rattle.notation.specs.Counts.{weightOf}
+use Rattle.notation.specs.Counts.{weight_of}
 use Rattle.notation.specs.Places.{isHead}
 use Rattle.naming.proofs.HeadLaws.{name_of}
-use Rattle.naming.proofs.WeightLaws.{Light, light-token, light-head}
+use Rattle.naming.proofs.WeightLaws.{Light, light_token, light_head}
 use Rattle.naming.proofs.EndLaws.{Ended, ends, endings}
 use Rattle.naming.proofs.PlaceLaws.{filled}
 
 -- What is kept of a production that has ended: its own node is the last of its nodes.
-abbrev pub toEntry : Ended Name → Entry
-toEntry e = record { name = e.head; number = e.nodes - 1 }
+abbrev pub to_entry : Ended Name → Entry
+to_entry e = record { name = e.head; number = e.nodes - 1 }
 
 -- The nodes up to the last end.
 unfoldable pub last_of : ℕ → List (Ended Name) → ℕ
@@ -32,12 +32,12 @@ last_of nodes (e ∷ es) = last_of e.nodes es
 
 module _ (x : Name) (k w : ℕ) where
   -- Something is open, or nothing.
-  pub ends-one : (w ≡ 0 → ⊥) → ends x k w ≡ record { head = x; nodes = k + (w - 1) } ∷ []
-  ends-one h = rw (ne_eqb w 0 h)
+  pub ends_one : (w ≡ 0 → ⊥) → ends x k w ≡ record { head = x; nodes = k + (w - 1) } ∷ []
+  ends_one h = rw (ne_eqb w 0 h)
 
-  last-ends : (es : List (Ended Name)) → last_of k (ends x k w ++ es) ≡ last_of (k + (w - 1)) es
+  last_ends : (es : List (Ended Name)) → last_of k (ends x k w ++ es) ≡ last_of (k + (w - 1)) es
   unfolding last_of
-  last-ends es = go (eqb w 0) refl
+  last_ends es = go (eqb w 0) refl
     where
       go : (b : Bool) → eqb w 0 ≡ b → last_of k (ends x k w ++ es) ≡ last_of (k + (w - 1)) es
       go true q =
@@ -50,18 +50,18 @@ module _ (ns : List Name) where
   abbrev pub settled : (x : Name) (k w : ℕ) → List ℕ → List ℕ
   settled x k w numbers = pick (eqb w 0) numbers (set numbers (place x ns) (k + (w - 1) - 1))
 
-  filled-ends :
+  filled_ends :
       (x : Name) (k w : ℕ) (numbers : List ℕ) (es : List (Ended Name))
-      → filled ns numbers (map toEntry (ends x k w ++ es)) ≡ filled ns (settled x k w numbers) (map toEntry es)
+      → filled ns numbers (map to_entry (ends x k w ++ es)) ≡ filled ns (settled x k w numbers) (map to_entry es)
   unfolding filled
-  filled-ends x k w numbers es = go (eqb w 0) refl
+  filled_ends x k w numbers es = go (eqb w 0) refl
     where
-      go : (b : Bool) → eqb w 0 ≡ b → filled ns numbers (map toEntry (ends x k w ++ es)) ≡ filled ns (settled x k w numbers) (map toEntry es)
+      go : (b : Bool) → eqb w 0 ≡ b → filled ns numbers (map to_entry (ends x k w ++ es)) ≡ filled ns (settled x k w numbers) (map to_entry es)
       go true q = rw q
       go false q = rw q
 
-  settled-length : (x : Name) (k w : ℕ) (numbers : List ℕ) → length (settled x k w numbers) ≡ length numbers
-  settled-length x k w numbers = go (eqb w 0) refl
+  settled_length : (x : Name) (k w : ℕ) (numbers : List ℕ) → length (settled x k w numbers) ≡ length numbers
+  settled_length x k w numbers = go (eqb w 0) refl
     where
       go : (b : Bool) → eqb w 0 ≡ b → length (settled x k w numbers) ≡ length numbers
       go true q = rw q
@@ -77,13 +77,13 @@ module _ (ns : List Name) where
   AllGood [] = Unit
   AllGood (e ∷ es) = Good e × AllGood es
 
-  good-front : (es fs : List (Ended Name)) → AllGood (es ++ fs) → AllGood es
-  good-front [] fs g = tt
-  good-front (e ∷ es) fs g = (g.0, good-front es fs g.1)
+  good_front : (es fs : List (Ended Name)) → AllGood (es ++ fs) → AllGood es
+  good_front [] fs g = tt
+  good_front (e ∷ es) fs g = (g.0, good_front es fs g.1)
 
-  good-back : (es fs : List (Ended Name)) → AllGood (es ++ fs) → AllGood fs
-  good-back [] fs g = g
-  good-back (e ∷ es) fs g = good-back es fs g.1
+  good_back : (es fs : List (Ended Name)) → AllGood (es ++ fs) → AllGood fs
+  good_back [] fs g = g
+  good_back (e ∷ es) fs g = good_back es fs g.1
 
   -- ## What is filled in, with what is still to come, is what the whole gives
 
@@ -92,61 +92,61 @@ module _ (ns : List Name) where
       pub light : Light nodes weight ls
       pub long : length numbers ≡ length ns
       pub good : AllGood (endings name_of name nodes weight ls)
-      pub fills : filled ns numbers (map toEntry (endings name_of name nodes weight ls)) ≡ filled ns before (map toEntry whole)
+      pub fills : filled ns numbers (map to_entry (endings name_of name nodes weight ls)) ≡ filled ns before (map to_entry whole)
       pub lasts : last_of nodes (endings name_of name nodes weight ls) ≡ last_of 0 whole
 
     -- The end that is next is a good one.
     module _ {name : Name} {nodes weight : ℕ} {numbers : List ℕ} where
-      pub filling-open : {l : Lexeme} {ls : List Lexeme} → isHead l.token ≡ true → Filling name nodes weight numbers (l ∷ ls) → AllGood (ends name nodes weight)
+      pub filling_open : {l : Lexeme} {ls : List Lexeme} → isHead l.token ≡ true → Filling name nodes weight numbers (l ∷ ls) → AllGood (ends name nodes weight)
       unfolding endings
-      filling-open {l} {ls} e F =
-          good-front (ends name nodes weight) (endings name_of (name_of l) (nodes + (weight - 1)) 0 ls) (rw e at F.good)
+      filling_open {l} {ls} e F =
+          good_front (ends name nodes weight) (endings name_of (name_of l) (nodes + (weight - 1)) 0 ls) (rw e at F.good)
 
-      pub filling-last : Filling name nodes weight numbers [] → AllGood (ends name nodes weight)
+      pub filling_last : Filling name nodes weight numbers [] → AllGood (ends name nodes weight)
       unfolding endings
-      filling-last F = F.good
+      filling_last F = F.good
 
     module _ {name : Name} {nodes weight : ℕ} {numbers : List ℕ} {l : Lexeme} {ls : List Lexeme} (F : Filling name nodes weight numbers (l ∷ ls)) where
-      pub filling-token : isHead l.token ≡ false → {w : ℕ} → w ≡ weightOf l.token → Filling name nodes (weight + w) numbers ls
+      pub filling_token : isHead l.token ≡ false → {w : ℕ} → w ≡ weight_of l.token → Filling name nodes (weight + w) numbers ls
       unfolding endings
-      filling-token e h =
+      filling_token e h =
           rw h
           (record {
-            light = light-token nodes weight l ls F.light;
+            light = light_token nodes weight l ls F.light;
             long = F.long;
             good = rw e at F.good;
             fills = rw e at F.fills;
             lasts = rw e at F.lasts;
           })
 
-      pub filling-head :
+      pub filling_head :
           isHead l.token ≡ true → {k : ℕ} → k ≡ nodes + (weight - 1) → {now : List ℕ} → now ≡ settled name nodes weight numbers → {m : Name} → name_of l ≡ m
           → Filling m k 0 now ls
       unfolding endings
-      filling-head e h n q =
+      filling_head e h n q =
           let k = nodes + (weight - 1) in
           let later = endings name_of (name_of l) k 0 ls in
           rw (h, n, ← q)
           (record {
-            light = light-head nodes weight l ls F.light;
-            long = settled-length name nodes weight numbers ∙ F.long;
-            good = good-back (ends name nodes weight) later (rw e at F.good);
-            fills = sym (filled-ends name nodes weight numbers later) ∙ rw e at F.fills;
-            lasts = sym (last-ends name nodes weight later) ∙ rw e at F.lasts;
+            light = light_head nodes weight l ls F.light;
+            long = settled_length name nodes weight numbers ∙ F.long;
+            good = good_back (ends name nodes weight) later (rw e at F.good);
+            fills = sym (filled_ends name nodes weight numbers later) ∙ rw e at F.fills;
+            lasts = sym (last_ends name nodes weight later) ∙ rw e at F.lasts;
           })
 
-    pub filling-bad : {name : Name} {nodes weight : ℕ} {numbers : List ℕ} (l : Lexeme) → l.token ≡ bad → Filling name nodes weight numbers (l ∷ [])
+    pub filling_bad : {name : Name} {nodes weight : ℕ} {numbers : List ℕ} (l : Lexeme) → l.token ≡ bad → Filling name nodes weight numbers (l ∷ [])
         → Filling name nodes weight numbers []
-    filling-bad {name} {nodes} {weight} {numbers} l e F =
+    filling_bad {name} {nodes} {weight} {numbers} l e F =
         let z : weight + 0 ≡ weight = omega arith in
-        rw z at (filling-token F (ap isHead e) {w = 0} (sym (ap weightOf e)))
+        rw z at (filling_token F (ap isHead e) {w = 0} (sym (ap weight_of e)))
 
     -- In the end all are filled in, and all nodes are counted.
     module _ {name : Name} {nodes weight : ℕ} {numbers : List ℕ} (F : Filling name nodes weight numbers []) where
-      pub filling-filled : {now : List ℕ} → now ≡ settled name nodes weight numbers → now ≡ filled ns before (map toEntry whole)
+      pub filling_filled : {now : List ℕ} → now ≡ settled name nodes weight numbers → now ≡ filled ns before (map to_entry whole)
       unfolding endings filled
-      filling-filled e = e ∙ sym (rw append-nil at (filled-ends name nodes weight numbers [])) ∙ F.fills
+      filling_filled e = e ∙ sym (rw append-nil at (filled_ends name nodes weight numbers [])) ∙ F.fills
 
-      pub filling-counted : {k : ℕ} → k ≡ nodes + (weight - 1) → k ≡ last_of 0 whole
+      pub filling_counted : {k : ℕ} → k ≡ nodes + (weight - 1) → k ≡ last_of 0 whole
       unfolding endings last_of
-      filling-counted e = e ∙ sym (rw append-nil at (last-ends name nodes weight [])) ∙ F.lasts
+      filling_counted e = e ∙ sym (rw append-nil at (last_ends name nodes weight [])) ∙ F.lasts

@@ -20,31 +20,31 @@ use Rattle.notation.specs.CompileLaws.{member-here}
 use Rattle.notation.specs.Places.{isHead}
 use Rattle.lexer.specs.Meant.{ahead}
 use Rattle.lexer.specs.declared.token.Token as lexer
-use Rattle.naming.proofs.HeadLaws.{is-head, no-head}
+use Rattle.naming.proofs.HeadLaws.{is_head, no_head}
 
 -- A name is the first production's.
 pub record First (n : Name) (ps : List Production) : Type 0 where
   pub listed : member n (names ps) ≡ true
   pub said : entry n (roots 0 ps) ≡ first (roots 0 ps)
 
-first-here : (n : Name) (a : Tree) (ps : List Production) → First n (record { name = n; body = a } ∷ ps)
+first_here : (n : Name) (a : Tree) (ps : List Production) → First n (record { name = n; body = a } ∷ ps)
 unfolding roots entry first
-first-here n a ps = record { listed = member-here n (names ps); said = rw (same_refl n) }
+first_here n a ps = record { listed = member-here n (names ps); said = rw (same_refl n) }
 
 -- The tokens of productions begin with a head, of this name.
-not-empty : {ts : List Token} {ps : List Production} → Productions ts ps → ts ≡ [] → ⊥
-not-empty (last D) e = no_way (cc)
-not-empty (more D P) e = no_way (cc)
+not_empty : {ts : List Token} {ps : List Production} → Productions ts ps → ts ≡ [] → ⊥
+not_empty (last D) e = no_way (cc)
+not_empty (more D P) e = no_way (cc)
 
-head-front : {ts : List Token} {ps : List Production} {t : Token} {rest : List Token} → Productions ts ps → ts ≡ t ∷ rest → isHead t ≡ true
-head-front {t = t} (last {n = n} D) e = let k : t ≡ head n = cc in ap isHead k
-head-front {t = t} (more {n = n} D P) e = let k : t ≡ head n = cc in ap isHead k
+head_front : {ts : List Token} {ps : List Production} {t : Token} {rest : List Token} → Productions ts ps → ts ≡ t ∷ rest → isHead t ≡ true
+head_front {t = t} (last {n = n} D) e = let k : t ≡ head n = cc in ap isHead k
+head_front {t = t} (more {n = n} D P) e = let k : t ≡ head n = cc in ap isHead k
 
-first-name : {ts : List Token} {ps : List Production} {n : Name} {rest : List Token} → Productions ts ps → ts ≡ head n ∷ rest → First n ps
-first-name {n = n} (last {n = m} {a = a} D) e =
-    let k : m ≡ n = cc in subst (λ n. First n (record { name = m; body = a } ∷ [])) k (first-here m a [])
-first-name {n = n} (more {n = m} {a = a} {ps = qs} D P) e =
-    let k : m ≡ n = cc in subst (λ n. First n (record { name = m; body = a } ∷ qs)) k (first-here m a qs)
+first_name_lem : {ts : List Token} {ps : List Production} {n : Name} {rest : List Token} → Productions ts ps → ts ≡ head n ∷ rest → First n ps
+first_name_lem {n = n} (last {n = m} {a = a} D) e =
+    let k : m ≡ n = cc in subst (λ n. First n (record { name = m; body = a } ∷ [])) k (first_here m a [])
+first_name_lem {n = n} (more {n = m} {a = a} {ps = qs} D P) e =
+    let k : m ≡ n = cc in subst (λ n. First n (record { name = m; body = a } ∷ qs)) k (first_here m a qs)
 
 -- The code's first token says that name.
 pub first_of : {ts : List Token} {ps : List Production} → Productions ts ps → (text : List ℕ) (t : lexer.Token) → bare (ahead text t) ≡ ts → First (name_at text t.name) ps
@@ -52,8 +52,8 @@ unfolding ahead
 first_of {ts} {ps} P text t e = go (eqb t.kind 0) (eqb t.kind 1) refl refl
   where
     go : (a b : Bool) → eqb t.kind 0 ≡ a → eqb t.kind 1 ≡ b → First (name_at text t.name) ps
-    go true b p q = absurd (not-empty P (sym (rw p at e)))
+    go true b p q = absurd (not_empty P (sym (rw p at e)))
     go false true p q =
-        let z = rw p at e in first-name P (sym z ∙ ap (λ x. x ∷ bare (pick (eqb t.kind 11) [] (lexemes (drop t.next text)))) (is-head text t (eqb-true t.kind 1 q)))
+        let z = rw p at e in first_name_lem P (sym z ∙ ap (λ x. x ∷ bare (pick (eqb t.kind 11) [] (lexemes (drop t.next text)))) (is_head text t (eqb-true t.kind 1 q)))
     go false false p q =
-        let z : true ≡ false = sym (head-front P (sym (rw p at e))) ∙ no-head text t (eqb-false t.kind 1 q) in no_way (cc)
+        let z : true ≡ false = sym (head_front P (sym (rw p at e))) ∙ no_head text t (eqb-false t.kind 1 q) in no_way (cc)

@@ -13,14 +13,14 @@ use Rattle.notation.specs.Token.{Token, bad, Lexeme}
 use Rattle.notation.specs.At.{name_at}
 use Rattle.notation.specs.Lexer.{lexemes}
 use Rattle.notation.specs.Compile.{insert}
-use Rattle.notation.specs.Places.{firstName, again, ninth, namePlace}
+use Rattle.notation.specs.Places.{first_name, again, ninth, namePlace}
 use Rattle.index.specs.Listed.{names_at, Ascending, Keeps}
-use Rattle.notation.specs.OrderLaws.{insert-ascending}
-use Rattle.index.specs.PlaceLaws.{names-length}
+use Rattle.notation.specs.OrderLaws.{insert_ascending}
+use Rattle.index.specs.PlaceLaws.{names_length}
 use Rattle.index.specs.declared.list.Kept.{Kept}
-use Rattle.naming.specs.Found.{found, hereIf, or_else}
-use Rattle.naming.specs.Gathered.{sortOf, inserted, gathered, Gathers, Adds}
-use Rattle.naming.specs.GatheredLaws.{gathered-grows}
+use Rattle.naming.specs.Found.{found, here_if, or_else}
+use Rattle.naming.specs.Gathered.{sort_of, inserted, gathered, Gathers, Adds}
+use Rattle.naming.specs.GatheredLaws.{gathered_grows}
 use Rattle.naming.specs.declared.found.Found.{Found}
 use Rattle.naming.specs.declared.found.Found.TheVariants.{At, Nowhere}
 use Rattle.naming.specs.declared.gather.Gathered.{Gathered}
@@ -28,7 +28,7 @@ use Rattle.naming.specs.declared.gather.Gathered.{Gathered}
 -- What keeping a name and looking at what it came to adds.
 pub adds :
     {text at : List ℕ} {g : Gathered} {p : ℕ} {now : List ℕ} {k : Kept} {a b : Found} → g.count < length at
-    → Keeps text at g.count p now k → a ≡ or_else g.again (hereIf (not k.fresh) p) → b ≡ or_else g.ninth (hereIf (ltb 8 k.count) p)
+    → Keeps text at g.count p now k → a ≡ or_else g.again (here_if (not k.fresh) p) → b ≡ or_else g.ninth (here_if (ltb 8 k.count) p)
     → Adds text at g p now (record { count = k.count; again = a; ninth = b })
 adds {text} {at} {g} {p} {now} {k} h K e f =
     let n = name_at text p in
@@ -38,8 +38,8 @@ adds {text} {at} {g} {p} {now} {k} h K e f =
       listed = K.names;
       within = fits;
       long = K.long;
-      again = e ∙ ap (λ w. or_else g.again (hereIf w p)) (ap not K.fresh ∙ twice (again ns n));
-      ninth = f ∙ ap (λ m. or_else g.ninth (hereIf (ltb 8 m) p)) (sym (names-length text now k.count fits) ∙ ap length K.names);
+      again = e ∙ ap (λ w. or_else g.again (here_if w p)) (ap not K.fresh ∙ twice (again ns n));
+      ninth = f ∙ ap (λ m. or_else g.ninth (here_if (ltb 8 m) p)) (sym (names_length text now k.count fits) ∙ ap length K.names);
     }
   where
     twice : (b : Bool) → not (not b) ≡ b
@@ -47,43 +47,43 @@ adds {text} {at} {g} {p} {now} {k} h K e f =
     twice false = refl
 
 -- What is no token names nothing.
-pub sort-bad : (sort : ℕ) → sortOf sort bad ≡ []
-sort-bad sort = go (eqb sort 0) (eqb sort 1) refl refl
+pub sort_bad : (sort : ℕ) → sort_of sort bad ≡ []
+sort_bad sort = go (eqb sort 0) (eqb sort 1) refl refl
   where
-    go : (a b : Bool) → eqb sort 0 ≡ a → eqb sort 1 ≡ b → sortOf sort bad ≡ []
+    go : (a b : Bool) → eqb sort 0 ≡ a → eqb sort 1 ≡ b → sort_of sort bad ≡ []
     go true b p q = rw p
     go false true p q = rw (p, q)
     go false false p q = rw (p, q)
 
 -- ## A place that is found, with what is still to come
 
-nowhere-else : (a : Found) → or_else a Nowhere ≡ a
-nowhere-else (At p) = refl
-nowhere-else Nowhere = refl
+nowhere_else : (a : Found) → or_else a Nowhere ≡ a
+nowhere_else (At p) = refl
+nowhere_else Nowhere = refl
 
 -- A place that a test picks, with what comes behind it.
 found_here :
     (place : Lexeme → ℕ) (a : Found) (b : Bool) (p : ℕ) (l : Lexeme) (later : Option Lexeme) → place l ≡ p
-    → or_else (or_else a (hereIf b p)) (found place later) ≡ or_else a (found place (pick b (some l) later))
+    → or_else (or_else a (here_if b p)) (found place later) ≡ or_else a (found place (pick b (some l) later))
 found_here place (At q) b p l later e = refl
 found_here place Nowhere true p l later e = ap At (sym e)
 found_here place Nowhere false p l later e = refl
 
 module _ (f : Token → List Name) (test : List Name → Name → Bool) (before : List Name) (l : Lexeme) (ls : List Lexeme) where
-  name-none : f l.token ≡ [] → firstName f test before (l ∷ ls) ≡ firstName f test before ls
-  unfolding firstName
-  name-none e = rw (e, firstName)
+  name_none : f l.token ≡ [] → first_name f test before (l ∷ ls) ≡ first_name f test before ls
+  unfolding first_name
+  name_none e = rw (e, first_name)
 
-  name-one : (n : Name) → f l.token ≡ n ∷ [] → firstName f test before (l ∷ ls) ≡ pick (test before n) (some l) (firstName f test (insert n before) ls)
-  unfolding firstName
-  name-one n e = rw (e, firstName)
+  name_one : (n : Name) → f l.token ≡ n ∷ [] → first_name f test before (l ∷ ls) ≡ pick (test before n) (some l) (first_name f test (insert n before) ls)
+  unfolding first_name
+  name_one n e = rw (e, first_name)
 
 -- ## What is gathered, with what is still to come, is what the whole gives
 
 module _ (f : Token → List Name) (text : List ℕ) (whole : List Lexeme) where
   -- The first name that a test does not let pass.
   abbrev First : (List Name → Name → Bool) → Found → List Name → List Lexeme → Type 0
-  First test a before ls = or_else a (found (namePlace text) (firstName f test before ls)) ≡ found (namePlace text) (firstName f test [] whole)
+  First test a before ls = or_else a (found (namePlace text) (first_name f test before ls)) ≡ found (namePlace text) (first_name f test [] whole)
 
   pub record Gathering (at : List ℕ) (g : Gathered) (ls : List Lexeme) : Type 0 where
     pub within : g.count ≤ length at
@@ -93,54 +93,54 @@ module _ (f : Token → List Name) (text : List ℕ) (whole : List Lexeme) where
     pub ninth : First ninth g.ninth (names_at text at g.count) ls
 
   -- There is room for one more name that is still to come.
-  pub gathering-room : {at : List ℕ} {g : Gathered} {ls : List Lexeme} → Gathering at g ls → g.count ≤ length (gathered f [] whole)
-  gathering-room {at} {g} {ls} G =
+  pub gathering_room : {at : List ℕ} {g : Gathered} {ls : List Lexeme} → Gathering at g ls → g.count ≤ length (gathered f [] whole)
+  gathering_room {at} {g} {ls} G =
       let ns = names_at text at g.count in
-      omega (arith, names-length text at g.count G.within, gathered-grows f ns ls, ap length G.listed)
+      omega (arith, names_length text at g.count G.within, gathered_grows f ns ls, ap length G.listed)
 
   -- A token that names nothing of the sort; and one that names one thing, which is added.
-  pub gathering-past : {at : List ℕ} {g : Gathered} {l : Lexeme} {ls : List Lexeme} → f l.token ≡ [] → Gathering at g (l ∷ ls) → Gathering at g ls
+  pub gathering_past : {at : List ℕ} {g : Gathered} {l : Lexeme} {ls : List Lexeme} → f l.token ≡ [] → Gathering at g (l ∷ ls) → Gathering at g ls
   unfolding gathered inserted
-  gathering-past {at} {g} {l} {ls} e G =
+  gathering_past {at} {g} {l} {ls} e G =
       let ns = names_at text at g.count in
       record {
         within = G.within;
         ordered = G.ordered;
         listed = rw e at G.listed;
-        again = rw (name-none f again ns l ls e) at G.again;
-        ninth = rw (name-none f ninth ns l ls e) at G.ninth;
+        again = rw (name_none f again ns l ls e) at G.again;
+        ninth = rw (name_none f ninth ns l ls e) at G.ninth;
       }
 
-  pub gathering-on :
+  pub gathering_on :
       {at now : List ℕ} {g r : Gathered} {l : Lexeme} {ls : List Lexeme} {p : ℕ} → namePlace text l ≡ p → f l.token ≡ name_at text p ∷ []
       → Adds text at g p now r → Gathering at g (l ∷ ls) → Gathering now r ls
   unfolding gathered inserted
-  gathering-on {at} {now} {g} {r} {l} {ls} {p} h e A G =
+  gathering_on {at} {now} {g} {r} {l} {ls} {p} h e A G =
       let ns = names_at text at g.count in
       let n = name_at text p in
-      let first : (test : List Name → Name → Bool) (a b : Found) → b ≡ or_else a (hereIf (test ns n) p) → First test a ns (l ∷ ls)
+      let first : (test : List Name → Name → Bool) (a b : Found) → b ≡ or_else a (here_if (test ns n) p) → First test a ns (l ∷ ls)
       → First test b (names_at text now r.count) ls = λ test a b q F.
       rw (A.listed, q)
-      (found_here (namePlace text) a (test ns n) p l (firstName f test (insert n ns) ls) h ∙ rw (name-one f test ns l ls n e) at F)
+      (found_here (namePlace text) a (test ns n) p l (first_name f test (insert n ns) ls) h ∙ rw (name_one f test ns l ls n e) at F)
       in
       record {
         within = A.within;
-        ordered = rw A.listed (insert-ascending n ns G.ordered);
+        ordered = rw A.listed (insert_ascending n ns G.ordered);
         listed = rw A.listed (rw e at G.listed);
         again = first again g.again r.again A.again G.again;
         ninth = first ninth g.ninth r.ninth A.ninth G.ninth;
       }
 
-pub gathering-none : (f : Token → List Name) (text : List ℕ) {at : List ℕ} (ls : List Lexeme)
+pub gathering_none : (f : Token → List Name) (text : List ℕ) {at : List ℕ} (ls : List Lexeme)
     → Gathering f text ls at (record { count = 0; again = Nowhere; ninth = Nowhere }) ls
-gathering-none f text ls = record { within = omega arith; ordered = tt; listed = refl; again = refl; ninth = refl }
+gathering_none f text ls = record { within = omega arith; ordered = tt; listed = refl; again = refl; ninth = refl }
 
-pub gathering-all : (f : Token → List Name) (text : List ℕ) {at : List ℕ} {g : Gathered} → Gathering f text (lexemes text) at g [] → Gathers f text at g
-unfolding gathered firstName
-gathering-all f text {at} {g} G =
+pub gathering_all : (f : Token → List Name) (text : List ℕ) {at : List ℕ} {g : Gathered} → Gathering f text (lexemes text) at g [] → Gathers f text at g
+unfolding gathered first_name
+gathering_all f text {at} {g} G =
     record {
       listed = G.listed;
-      many = sym (names-length text at g.count G.within) ∙ ap length G.listed;
-      again = sym (nowhere-else g.again) ∙ G.again;
-      ninth = sym (nowhere-else g.ninth) ∙ G.ninth;
+      many = sym (names_length text at g.count G.within) ∙ ap length G.listed;
+      again = sym (nowhere_else g.again) ∙ G.again;
+      ninth = sym (nowhere_else g.ninth) ∙ G.ninth;
     }

@@ -18,66 +18,66 @@ use Rattle.notation.specs.Text.{ReadsAs}
 use Rattle.notation.specs.Compile.{count}
 use Rattle.notation.specs.Places.{firstOver, imageUpTo, isHead, only}
 use Rattle.naming.specs.Found.{found}
-use Rattle.naming.specs.Sized.{nodesOf, Sized}
+use Rattle.naming.specs.Sized.{nodes_of, Sized}
 use Rattle.naming.specs.GatheredLaws.{reading}
 use Rattle.naming.specs.declared.found.Found.{Found}
 use Rattle.naming.specs.declared.found.Found.TheVariants.{At, Nowhere}
-use Rattle.naming.proofs.HeadLaws.{heads-length}
+use Rattle.naming.proofs.HeadLaws.{heads_length}
 
 -- The first head whose end, counted from the base, is past a limit.
-unfoldable pub firstAbove : (limit base : ℕ) → List ℕ → List Lexeme → Option Lexeme
-firstAbove limit base [] heads = none
-firstAbove limit base (e ∷ ends) [] = none
-firstAbove limit base (e ∷ ends) (h ∷ heads) = pick (ltb limit (base + e)) (some h) (firstAbove limit base ends heads)
+unfoldable pub first_above : (limit base : ℕ) → List ℕ → List Lexeme → Option Lexeme
+first_above limit base [] heads = none
+first_above limit base (e ∷ ends) [] = none
+first_above limit base (e ∷ ends) (h ∷ heads) = pick (ltb limit (base + e)) (some h) (first_above limit base ends heads)
 
 -- ## While no end is past the limit, what is still to come has the first that is
 
 module _ (limit base : ℕ) (ends : List ℕ) (place : Lexeme → ℕ) (whole : List Lexeme) where
   abbrev result : Found
-  result = found place (firstAbove limit base ends (only isHead whole))
+  result = found place (first_above limit base ends (only isHead whole))
 
   pub record Ending (i : ℕ) (ls : List Lexeme) : Type 0 where
-    pub still : found place (firstAbove limit base (drop i ends) (only isHead ls)) ≡ result
+    pub still : found place (first_above limit base (drop i ends) (only isHead ls)) ≡ result
 
   -- No head is left; or no end.
-  pub ending-over : {i : ℕ} → Ending i [] → Nowhere ≡ result
-  unfolding firstAbove only
-  ending-over {i} E = sym (ap (found place) (none_left (drop i ends))) ∙ E.still
+  pub ending_over : {i : ℕ} → Ending i [] → Nowhere ≡ result
+  unfolding first_above only
+  ending_over {i} E = sym (ap (found place) (none_left (drop i ends))) ∙ E.still
     where
-      none_left : (es : List ℕ) → firstAbove limit base es [] ≡ none
+      none_left : (es : List ℕ) → first_above limit base es [] ≡ none
       none_left [] = refl
       none_left (e ∷ es) = refl
 
-  pub ending-out : {i : ℕ} {ls : List Lexeme} → length ends ≤ i → Ending i ls → Nowhere ≡ result
-  unfolding firstAbove
-  ending-out h E = rw (drop_of_length-le ends h) at E.still
+  pub ending_out : {i : ℕ} {ls : List Lexeme} → length ends ≤ i → Ending i ls → Nowhere ≡ result
+  unfolding first_above
+  ending_out h E = rw (drop_of_length-le ends h) at E.still
 
   module _ {i : ℕ} {l : Lexeme} {ls : List Lexeme} (E : Ending i (l ∷ ls)) where
-    pub ending-token : isHead l.token ≡ false → Ending i ls
+    pub ending_token : isHead l.token ≡ false → Ending i ls
     unfolding only
-    ending-token e = record { still = rw e at E.still }
+    ending_token e = record { still = rw e at E.still }
 
     module _ (e : isHead l.token ≡ true) (h : i < length ends) where
-      here : found place (pick (ltb limit (base + get_or ends i 0)) (some l) (firstAbove limit base (drop (i + 1) ends) (only isHead ls))) ≡ result
-      unfolding firstAbove only
+      here : found place (pick (ltb limit (base + get_or ends i 0)) (some l) (first_above limit base (drop (i + 1) ends) (only isHead ls))) ≡ result
+      unfolding first_above only
       here = rw add-one (rw (e, drop-cons ends i 0 h) at E.still)
 
-      pub ending-head : ltb limit (base + get_or ends i 0) ≡ false → Ending (i + 1) ls
-      ending-head f = record { still = rw f at here }
+      pub ending_head : ltb limit (base + get_or ends i 0) ≡ false → Ending (i + 1) ls
+      ending_head f = record { still = rw f at here }
 
       pub ending_here : ltb limit (base + get_or ends i 0) ≡ true → {p : ℕ} → place l ≡ p → At p ≡ result
       ending_here f q = ap At (sym q) ∙ rw f at here
 
-  pub ending-bad : {i : ℕ} (l : Lexeme) → l.token ≡ bad → Ending i (l ∷ []) → Ending i []
-  ending-bad l e E = ending-token E (ap isHead e)
+  pub ending_bad : {i : ℕ} (l : Lexeme) → l.token ≡ bad → Ending i (l ∷ []) → Ending i []
+  ending_bad l e E = ending_token E (ap isHead e)
 
 -- ## It is what the rules say, where the ends are those of the image
 
 agrees :
     (limit base : ℕ) (size : ℕ → ℕ) (k : ℕ) (ps : List Production) (ends : List ℕ) (heads : List Lexeme) → length heads ≤ length ps
-    → length ps ≤ length ends → ((i : ℕ) → i < length ps → base + get_or ends i 0 ≡ size (k + nodesOf (take (suc i) ps)))
-    → firstAbove limit base ends heads ≡ firstOver limit size k ps heads
-unfolding firstAbove firstOver
+    → length ps ≤ length ends → ((i : ℕ) → i < length ps → base + get_or ends i 0 ≡ size (k + nodes_of (take (suc i) ps)))
+    → first_above limit base ends heads ≡ firstOver limit size k ps heads
+unfolding first_above firstOver
 agrees limit base size k [] [] heads h m f = refl
 agrees limit base size k [] (e ∷ ends) [] h m f = refl
 agrees limit base size k [] (e ∷ ends) (l ∷ heads) h m f = absurd (omega arith)
@@ -89,9 +89,9 @@ agrees limit base size k (p ∷ ps) (e ∷ ends) (l ∷ heads) h m f =
     ap₂ (λ n o. pick (ltb limit n) (some l) o) first
     (agrees limit base size later ps ends heads (omega arith) (omega arith) (λ i d. f (suc i) (omega arith) ∙ ap size (omega arith)))
 
-pub above-is :
+pub above_is :
     {text : List ℕ} {ps : List Production} → ReadsAs text ps → (g : Grammar) (base : ℕ) (ends : List ℕ) → Sized g base ends ps → (limit : ℕ)
-    → firstAbove limit base ends (only isHead (lexemes text)) ≡ firstOver limit (imageUpTo g) 0 ps (only isHead (lexemes text))
-above-is {text} {ps} r g base ends S limit =
-    agrees limit base (imageUpTo g) 0 ps ends (only isHead (lexemes text)) (omega (arith, heads-length (lexemes text) (reading r))) S.many
+    → first_above limit base ends (only isHead (lexemes text)) ≡ firstOver limit (imageUpTo g) 0 ps (only isHead (lexemes text))
+above_is {text} {ps} r g base ends S limit =
+    agrees limit base (imageUpTo g) 0 ps ends (only isHead (lexemes text)) (omega (arith, heads_length (lexemes text) (reading r))) S.many
     (λ i h. S.each i h ∙ ap (imageUpTo g) (omega arith))

@@ -14,42 +14,42 @@ use Rattle.notation.specs.Token.{bad, Lexeme}
 use Rattle.notation.specs.Lexer.{lexemes}
 use Rattle.notation.specs.Text.{ReadsAs}
 use Rattle.notation.specs.Compile.{count}
-use Rattle.notation.specs.Counts.{weightOf}
+use Rattle.notation.specs.Counts.{weight_of}
 use Rattle.notation.specs.Places.{firstOver, isHead, only}
-use Rattle.naming.specs.Found.{found, hereIf}
+use Rattle.naming.specs.Found.{found, here_if}
 use Rattle.naming.specs.GatheredLaws.{reading}
 use Rattle.naming.specs.declared.found.Found.{Found}
 use Rattle.naming.specs.declared.found.Found.TheVariants.{At, Nowhere}
-use Rattle.naming.proofs.WeightLaws.{Light, light-all, light-token, light-head}
-use Rattle.naming.proofs.EndLaws.{Ended, ends, endings, headed, endings-are}
+use Rattle.naming.proofs.WeightLaws.{Light, light_all, light_token, light_head}
+use Rattle.naming.proofs.EndLaws.{Ended, ends, endings, headed, endings_are}
 
 -- The first that ends past a limit.
-unfoldable pub firstPast : ℕ → List (Ended ℕ) → Found
-firstPast limit [] = Nowhere
-firstPast limit (e ∷ es) = pick (ltb limit e.nodes) (At e.head) (firstPast limit es)
+unfoldable pub first_past : ℕ → List (Ended ℕ) → Found
+first_past limit [] = Nowhere
+first_past limit (e ∷ es) = pick (ltb limit e.nodes) (At e.head) (first_past limit es)
 
-found-pick : (place : Lexeme → ℕ) (b : Bool) (l : Lexeme) (later : Option Lexeme) → found place (pick b (some l) later) ≡ pick b (At (place l)) (found place later)
-found-pick place true l later = refl
-found-pick place false l later = refl
+found_pick : (place : Lexeme → ℕ) (b : Bool) (l : Lexeme) (later : Option Lexeme) → found place (pick b (some l) later) ≡ pick b (At (place l)) (found place later)
+found_pick place true l later = refl
+found_pick place false l later = refl
 
 module _ (limit : ℕ) (place : Lexeme → ℕ) where
-  headed-past : (k : ℕ) (ps : List Production) (hs : List Lexeme) → firstPast limit (headed place k ps hs) ≡ found place (firstOver limit (λ n. n) k ps hs)
-  unfolding firstPast headed firstOver
-  headed-past k [] hs = refl
-  headed-past k (p ∷ ps) [] = refl
-  headed-past k (p ∷ ps) (h ∷ hs) =
+  headed_past : (k : ℕ) (ps : List Production) (hs : List Lexeme) → first_past limit (headed place k ps hs) ≡ found place (firstOver limit (λ n. n) k ps hs)
+  unfolding first_past headed firstOver
+  headed_past k [] hs = refl
+  headed_past k (p ∷ ps) [] = refl
+  headed_past k (p ∷ ps) (h ∷ hs) =
       let later = k + count p.body in
-      ap (λ r. pick (ltb limit later) (At (place h)) r) (headed-past later ps hs)
-      ∙ sym (found-pick place (ltb limit later) h (firstOver limit (λ n. n) later ps hs))
+      ap (λ r. pick (ltb limit later) (At (place h)) r) (headed_past later ps hs)
+      ∙ sym (found_pick place (ltb limit later) h (firstOver limit (λ n. n) later ps hs))
 
   -- What is open ends: where the nodes before it are within the limit, it is past the limit or nothing is open.
-  ends-past :
+  ends_past :
       (x k w : ℕ) (es : List (Ended ℕ)) → k ≤ limit
-      → firstPast limit (ends x k w ++ es) ≡ pick (ltb limit (k + (w - 1))) (At x) (firstPast limit es)
-  unfolding firstPast
-  ends-past x k w es h = go (eqb w 0) refl
+      → first_past limit (ends x k w ++ es) ≡ pick (ltb limit (k + (w - 1))) (At x) (first_past limit es)
+  unfolding first_past
+  ends_past x k w es h = go (eqb w 0) refl
     where
-      go : (b : Bool) → eqb w 0 ≡ b → firstPast limit (ends x k w ++ es) ≡ pick (ltb limit (k + (w - 1))) (At x) (firstPast limit es)
+      go : (b : Bool) → eqb w 0 ≡ b → first_past limit (ends x k w ++ es) ≡ pick (ltb limit (k + (w - 1))) (At x) (first_past limit es)
       go true q =
           let z : k + (w - 1) ≤ limit = omega (arith, eqb-true w 0 q) in rw (q, le-ltb limit (k + (w - 1)) z)
       go false q = rw q
@@ -58,52 +58,52 @@ module _ (limit : ℕ) (place : Lexeme → ℕ) where
 
   module _ (whole : List Lexeme) where
     abbrev result : Found
-    result = firstPast limit (endings place 0 0 0 whole)
+    result = first_past limit (endings place 0 0 0 whole)
 
     pub record Weighing (name nodes weight : ℕ) (ls : List Lexeme) : Type 0 where
       pub low : nodes ≤ limit
       pub light : Light nodes weight ls
-      pub within : firstPast limit (endings place name nodes weight ls) ≡ result
+      pub within : first_past limit (endings place name nodes weight ls) ≡ result
 
-    pub weighing-end : {name nodes weight : ℕ} → Weighing name nodes weight [] → hereIf (ltb limit (nodes + (weight - 1))) name ≡ result
-    unfolding endings firstPast
-    weighing-end {name} {nodes} {weight} W = sym (rw append-nil at (ends-past name nodes weight [] W.low)) ∙ W.within
+    pub weighing_end : {name nodes weight : ℕ} → Weighing name nodes weight [] → here_if (ltb limit (nodes + (weight - 1))) name ≡ result
+    unfolding endings first_past
+    weighing_end {name} {nodes} {weight} W = sym (rw append-nil at (ends_past name nodes weight [] W.low)) ∙ W.within
 
     module _ {name nodes weight : ℕ} {l : Lexeme} {ls : List Lexeme} (W : Weighing name nodes weight (l ∷ ls)) where
-      pub weighing-token : isHead l.token ≡ false → {w : ℕ} → w ≡ weightOf l.token → Weighing name nodes (weight + w) ls
+      pub weighing_token : isHead l.token ≡ false → {w : ℕ} → w ≡ weight_of l.token → Weighing name nodes (weight + w) ls
       unfolding endings
-      weighing-token e h =
-          rw h (record { low = W.low; light = light-token nodes weight l ls W.light; within = rw e at W.within })
+      weighing_token e h =
+          rw h (record { low = W.low; light = light_token nodes weight l ls W.light; within = rw e at W.within })
 
       -- A head ends what is open: with it the nodes are k.
       module _ (e : isHead l.token ≡ true) {k : ℕ} (h : k ≡ nodes + (weight - 1)) where
-        closes : pick (ltb limit k) (At name) (firstPast limit (endings place (place l) k 0 ls)) ≡ result
+        closes : pick (ltb limit k) (At name) (first_past limit (endings place (place l) k 0 ls)) ≡ result
         unfolding endings
-        closes = rw h (sym (ends-past name nodes weight (endings place (place l) (nodes + (weight - 1)) 0 ls) W.low) ∙ rw e at W.within)
+        closes = rw h (sym (ends_past name nodes weight (endings place (place l) (nodes + (weight - 1)) 0 ls) W.low) ∙ rw e at W.within)
 
-        pub weighing-head : k ≤ limit → {p : ℕ} → place l ≡ p → Weighing p k 0 ls
-        weighing-head f q = record {
+        pub weighing_head : k ≤ limit → {p : ℕ} → place l ≡ p → Weighing p k 0 ls
+        weighing_head f q = record {
           low = f;
-          light = rw h (light-head nodes weight l ls W.light);
+          light = rw h (light_head nodes weight l ls W.light);
           within = rw (← q) (rw (le-ltb limit k f) at closes);
         }
 
-        pub weighing-here : limit < k → At name ≡ result
-        weighing-here f = rw (lt-ltb limit k f) at closes
+        pub weighing_here : limit < k → At name ≡ result
+        weighing_here f = rw (lt-ltb limit k f) at closes
 
     -- What is no token weighs nothing.
-    pub weighing-bad : {name nodes weight : ℕ} (l : Lexeme) → l.token ≡ bad → Weighing name nodes weight (l ∷ []) → Weighing name nodes weight []
-    weighing-bad {name} {nodes} {weight} l e W =
+    pub weighing_bad : {name nodes weight : ℕ} (l : Lexeme) → l.token ≡ bad → Weighing name nodes weight (l ∷ []) → Weighing name nodes weight []
+    weighing_bad {name} {nodes} {weight} l e W =
         let z : weight + 0 ≡ weight = omega arith in
-        rw z at (weighing-token W (ap isHead e) {w = 0} (sym (ap weightOf e)))
+        rw z at (weighing_token W (ap isHead e) {w = 0} (sym (ap weight_of e)))
 
-pub weighing-all :
+pub weighing_all :
     (limit : ℕ) (text : List ℕ) (place : Lexeme → ℕ) → length text ≤ 65535 → Weighing limit place (lexemes text) 0 0 0 (lexemes text)
-weighing-all limit text place h = record { low = omega arith; light = light-all text h; within = refl }
+weighing_all limit text place h = record { low = omega arith; light = light_all text h; within = refl }
 
 -- Of a text that reads as productions it is what the rules say.
 pub past_is :
     {text : List ℕ} {ps : List Production} → ReadsAs text ps → (limit : ℕ) (place : Lexeme → ℕ)
-    → firstPast limit (endings place 0 0 0 (lexemes text)) ≡ found place (firstOver limit (λ n. n) 0 ps (only isHead (lexemes text)))
+    → first_past limit (endings place 0 0 0 (lexemes text)) ≡ found place (firstOver limit (λ n. n) 0 ps (only isHead (lexemes text)))
 past_is {text} {ps} r limit place =
-    ap (firstPast limit) (endings-are place (reading r) (lexemes text) refl 0 0 0) ∙ headed-past limit place 0 ps (only isHead (lexemes text))
+    ap (first_past limit) (endings_are place (reading r) (lexemes text) refl 0 0 0) ∙ headed_past limit place 0 ps (only isHead (lexemes text))

@@ -61,10 +61,10 @@ module _ (ns : List Name) where
   filled numbers [] = numbers
   filled numbers (e ∷ es) = filled (set numbers (place e.name ns) e.number) es
 
-  pub filled-length : (numbers : List ℕ) (es : List Entry) → length (filled numbers es) ≡ length numbers
+  pub filled_length : (numbers : List ℕ) (es : List Entry) → length (filled numbers es) ≡ length numbers
   unfolding filled
-  filled-length numbers [] = refl
-  filled-length numbers (e ∷ es) = filled-length (set numbers (place e.name ns) e.number) es ∙ length-set numbers (place e.name ns) e.number
+  filled_length numbers [] = refl
+  filled_length numbers (e ∷ es) = filled_length (set numbers (place e.name ns) e.number) es ∙ length-set numbers (place e.name ns) e.number
 
   -- Every name is one of these.
   abbrev pub Among : List Entry → Type 0
@@ -72,12 +72,12 @@ module _ (ns : List Name) where
   Among (e ∷ es) = (member e.name ns ≡ true) × Among es
 
   -- The number of a name that no entry has stays.
-  filled-other :
+  filled_other :
       (numbers : List ℕ) (es : List Entry) → Among es → (n : Name) → member n ns ≡ true → member n (named es) ≡ false
       → get_or (filled numbers es) (place n ns) 0 ≡ get_or numbers (place n ns) 0
   unfolding filled member
-  filled-other numbers [] A n m h = refl
-  filled-other numbers (e ∷ es) A n m h = go (same n e.name) refl (λ k. filled-other next es A.1 n m k)
+  filled_other numbers [] A n m h = refl
+  filled_other numbers (e ∷ es) A n m h = go (same n e.name) refl (λ k. filled_other next es A.1 n m k)
     where
       next : List ℕ
       next = set numbers (place e.name ns) e.number
@@ -87,13 +87,13 @@ module _ (ns : List Name) where
       go true q f = let z : true ≡ false = rw q at h in no_way (cc)
       go false q f = f (rw q at h) ∙ get_or-set_other numbers (place e.name ns) (place n ns) e.number 0 (apart n e.name ns m A.0 q)
 
-  filled-one :
+  filled_one :
       (numbers : List ℕ) (es : List Entry) → Among es → distinct (named es) ≡ true → length numbers ≡ length ns → (n : Name) → member n (named es) ≡ true
       → get_or (filled numbers es) (place n ns) 0 ≡ entry n es
   unfolding filled member entry distinct
-  filled-one numbers [] A d l n m = no_way (cc)
-  filled-one numbers (e ∷ es) A d l n m =
-      go (same n e.name) (member e.name (named es)) refl refl (λ k h. filled-one next es A.1 k (length-set numbers (place e.name ns) e.number ∙ l) n h)
+  filled_one numbers [] A d l n m = no_way (cc)
+  filled_one numbers (e ∷ es) A d l n m =
+      go (same n e.name) (member e.name (named es)) refl refl (λ k h. filled_one next es A.1 k (length-set numbers (place e.name ns) e.number ∙ l) n h)
     where
       next : List ℕ
       next = set numbers (place e.name ns) e.number
@@ -106,17 +106,17 @@ module _ (ns : List Name) where
           let k = same_true n e.name q in
           let i = (stands e.name ns A.0).inside in
           rw (q, k)
-          (filled-other next es A.1 e.name A.0 r ∙ get_or-set_same numbers (place e.name ns) e.number 0 (omega (arith, i, l)))
+          (filled_other next es A.1 e.name A.0 r ∙ get_or-set_same numbers (place e.name ns) e.number 0 (omega (arith, i, l)))
       go false false q r f = rw q (f (rw r at d) (rw q at m))
 
   -- WHAT IS FILLED IN for all these names is what the entries say.
-  pub filled-all :
+  pub filled_all :
       (numbers : List ℕ) (es : List Entry) → Among es → distinct (named es) ≡ true → length numbers ≡ length ns
       → ((n : Name) → member n ns ≡ member n (named es)) → (n : Name) → get_or (filled numbers es) (place n ns) 0 ≡ entry n es
-  filled-all numbers es A d l f n = go (member n (named es)) refl
+  filled_all numbers es A d l f n = go (member n (named es)) refl
     where
       go : (b : Bool) → member n (named es) ≡ b → get_or (filled numbers es) (place n ns) 0 ≡ entry n es
-      go true q = filled-one numbers es A d l n q
+      go true q = filled_one numbers es A d l n q
       go false q =
-          let k : length (filled numbers es) ≤ place n ns = omega (arith, filled-length numbers es, behind n ns (f n ∙ q), l) in
+          let k : length (filled numbers es) ≤ place n ns = omega (arith, filled_length numbers es, behind n ns (f n ∙ q), l) in
           get_or-eq_default (filled numbers es) 0 k ∙ sym (none_said n es q)

@@ -12,71 +12,71 @@ use Rattle.notation.specs.At.{name_at}
 use Rattle.notation.specs.Lexer.{lexemes, tokens}
 use Rattle.notation.specs.LexicalText.{no_way}
 use Rattle.notation.specs.Text.{ReadsAs}
-use Rattle.notation.specs.TextLaws.{one-reading}
+use Rattle.notation.specs.TextLaws.{one_reading}
 use Rattle.notation.specs.Naming.{names, member, distinct}
 use Rattle.notation.specs.Compile.{place, Entry, entry, count, root, roots, first, compile}
-use Rattle.notation.specs.CompileLaws.{member-here, member-later}
-use Rattle.notation.specs.FitLaws.{some-nodes}
+use Rattle.notation.specs.CompileLaws.{member-here, member_later}
+use Rattle.notation.specs.FitLaws.{some_nodes}
 use Rattle.notation.specs.Places.{isHead, only}
 use Rattle.lexer.specs.Meant.{Lexed}
 use Rattle.lexer.specs.declared.token.Token as lexer
-use Rattle.notation.specs.OrderLaws.{sorted-ascending, sorted-member}
+use Rattle.notation.specs.OrderLaws.{sorted_ascending, sorted_member}
 use Rattle.index.specs.Listed.{names_at, Ascending}
-use Rattle.index.specs.PlaceLaws.{names-length}
-use Rattle.naming.specs.Sized.{nodesOf}
+use Rattle.index.specs.PlaceLaws.{names_length}
+use Rattle.naming.specs.Sized.{nodes_of}
 use Rattle.naming.specs.SizedLaws.{size_is}
 use Rattle.naming.specs.Rooted.{Rootable, Rooted, Settles}
 use Rattle.naming.specs.GatheredLaws.{reading}
 use Rattle.naming.specs.declared.roots.Counted.{Counted}
-use Rattle.naming.proofs.HeadLaws.{name_of, named-heads, heads-length}
-use Rattle.naming.proofs.WeightLaws.{light-all}
-use Rattle.naming.proofs.EndLaws.{Ended, ends, endings, headed, endings-are}
-use Rattle.naming.proofs.PlaceLaws.{filled, filled-all, Among}
+use Rattle.naming.proofs.HeadLaws.{name_of, named_heads, heads_length}
+use Rattle.naming.proofs.WeightLaws.{light_all}
+use Rattle.naming.proofs.EndLaws.{Ended, ends, endings, headed, endings_are}
+use Rattle.naming.proofs.PlaceLaws.{filled, filled_all, Among}
 use Rattle.naming.proofs.FirstLaws.{First, first_of}
-use Rattle.naming.proofs.FillLaws.{toEntry, last_of, ends-one, Good, AllGood, Filling}
+use Rattle.naming.proofs.FillLaws.{to_entry, last_of, ends_one, Good, AllGood, Filling}
 
 -- ## Productions with their heads
 
-headed-good :
-    (ns : List Name) (k : ℕ) (ps : List Production) (hs : List Lexeme) → k + nodesOf ps ≤ 512
+headed_good :
+    (ns : List Name) (k : ℕ) (ps : List Production) (hs : List Lexeme) → k + nodes_of ps ≤ 512
     → ((n : Name) → member n (map name_of hs) ≡ true → member n ns ≡ true) → AllGood ns (headed name_of k ps hs)
 unfolding headed
-headed-good ns k [] hs h f = tt
-headed-good ns k (p ∷ ps) [] h f = tt
-headed-good ns k (p ∷ ps) (l ∷ hs) h f =
-    let some = some-nodes 0 0 0 (λ n. 0) (λ n. 0) (λ n. 0) p.body in (
+headed_good ns k [] hs h f = tt
+headed_good ns k (p ∷ ps) [] h f = tt
+headed_good ns k (p ∷ ps) (l ∷ hs) h f =
+    let some = some_nodes 0 0 0 (λ n. 0) (λ n. 0) (λ n. 0) p.body in (
       record { named = f (name_of l) (member-here (name_of l) (map name_of hs)); some = omega arith; few = omega arith },
-      headed-good ns (k + count p.body) ps hs (omega arith) (λ n m. f n (member-later n (name_of l) (map name_of hs) m)),
+      headed_good ns (k + count p.body) ps hs (omega arith) (λ n m. f n (member_later n (name_of l) (map name_of hs) m)),
     )
 
-headed-entries : (k : ℕ) (ps : List Production) (hs : List Lexeme) → map name_of hs ≡ names ps → map toEntry (headed name_of k ps hs) ≡ roots k ps
+headed_entries : (k : ℕ) (ps : List Production) (hs : List Lexeme) → map name_of hs ≡ names ps → map to_entry (headed name_of k ps hs) ≡ roots k ps
 unfolding headed roots
-headed-entries k [] hs e = refl
-headed-entries k (p ∷ ps) [] e = no_way (cc)
-headed-entries k (p ∷ ps) (l ∷ hs) e =
+headed_entries k [] hs e = refl
+headed_entries k (p ∷ ps) [] e = no_way (cc)
+headed_entries k (p ∷ ps) (l ∷ hs) e =
     let first : name_of l ≡ p.name = cc in
     let later : map name_of hs ≡ names ps = cc in
-    ap₂ (λ n es. record { name = n; number = root k p.body } ∷ es) first (headed-entries (k + count p.body) ps hs later)
+    ap₂ (λ n es. record { name = n; number = root k p.body } ∷ es) first (headed_entries (k + count p.body) ps hs later)
 
-headed-last : (k : ℕ) (ps : List Production) (hs : List Lexeme) → length hs ≡ length ps → last_of k (headed name_of k ps hs) ≡ k + nodesOf ps
+headed_last : (k : ℕ) (ps : List Production) (hs : List Lexeme) → length hs ≡ length ps → last_of k (headed name_of k ps hs) ≡ k + nodes_of ps
 unfolding headed last_of
-headed-last k [] hs e = omega arith
-headed-last k (p ∷ ps) [] e = absurd (omega arith)
-headed-last k (p ∷ ps) (l ∷ hs) e = let i = headed-last (k + count p.body) ps hs (omega arith) in omega arith
+headed_last k [] hs e = omega arith
+headed_last k (p ∷ ps) [] e = absurd (omega arith)
+headed_last k (p ∷ ps) (l ∷ hs) e = let i = headed_last (k + count p.body) ps hs (omega arith) in omega arith
 
-roots-names : (k : ℕ) (ps : List Production) → map (λ e. e.name) (roots k ps) ≡ names ps
+roots_names : (k : ℕ) (ps : List Production) → map (λ e. e.name) (roots k ps) ≡ names ps
 unfolding roots
-roots-names k [] = refl
-roots-names k (p ∷ ps) = ap (λ ns. p.name ∷ ns) (roots-names (k + count p.body) ps)
+roots_names k [] = refl
+roots_names k (p ∷ ps) = ap (λ ns. p.name ∷ ns) (roots_names (k + count p.body) ps)
 
 -- ## A text that reads as productions of at most 512 nodes, no two of one name
 
 -- Every entry's name is one of these, if every name of an entry is.
-among-all : (ns : List Name) (es : List Entry) → ((n : Name) → member n (map (λ e. e.name) es) ≡ true → member n ns ≡ true) → Among ns es
-among-all ns [] f = tt
-among-all ns (e ∷ es) f =
+among_all : (ns : List Name) (es : List Entry) → ((n : Name) → member n (map (λ e. e.name) es) ≡ true → member n ns ≡ true) → Among ns es
+among_all ns [] f = tt
+among_all ns (e ∷ es) f =
     let named = map (λ e. e.name) es in
-    (f e.name (member-here e.name named), among-all ns es (λ n m. f n (member-later n e.name named m)))
+    (f e.name (member-here e.name named), among_all ns es (λ n m. f n (member_later n e.name named m)))
 
 -- An end that is a good one can be settled.
 pub settles :
@@ -85,13 +85,13 @@ pub settles :
     → Settles text heads numbers name nodes weight
 settles text heads numbers name nodes weight a l e g = record {
   light = l;
-  listed = λ h. record { ordered = a; named = (one h).named; long = e ∙ names-length text heads (length heads) (omega arith) };
+  listed = λ h. record { ordered = a; named = (one h).named; long = e ∙ names_length text heads (length heads) (omega arith) };
   some = λ h. (one h).some;
   few = λ h. (one h).few;
 }
   where
     one : (weight ≡ 0 → ⊥) → Good (names_at text heads (length heads)) (record { head = name_at text name; nodes = nodes + (weight - 1) })
-    one h = (subst (AllGood (names_at text heads (length heads))) (ends-one (name_at text name) nodes weight h) g).0
+    one h = (subst (AllGood (names_at text heads (length heads))) (ends_one (name_at text name) nodes weight h) g).0
 
 module _ {text heads before : List ℕ} (R : Rootable text heads before) where
   abbrev ns : List Name
@@ -107,50 +107,50 @@ module _ {text heads before : List ℕ} (R : Rootable text heads before) where
   derived = reading R.reads
 
   pub ordered : Ascending ns
-  ordered = rw R.listed (sorted-ascending (names ps))
+  ordered = rw R.listed (sorted_ascending (names ps))
 
   among : (n : Name) → member n ns ≡ member n (names ps)
-  among n = ap (member n) R.listed ∙ sorted-member n (names ps)
+  among n = ap (member n) R.listed ∙ sorted_member n (names ps)
 
   -- The first token's name is listed.
   module _ {t : lexer.Token} (L : Lexed text 0 t) where
     leads : First (name_at text t.name) ps
     leads = first_of derived text t (ap bare (sym L.goes))
 
-    pub first-listed : member (name_at text t.name) ns ≡ true
-    first-listed = among (name_at text t.name) ∙ leads.listed
+    pub first_listed : member (name_at text t.name) ns ≡ true
+    first_listed = among (name_at text t.name) ∙ leads.listed
 
   module _ (x : Name) where
     abbrev pub whole : List (Ended Name)
     whole = endings name_of x 0 0 (lexemes text)
 
     whole_is : whole ≡ headed name_of 0 ps hs
-    whole_is = endings-are name_of derived (lexemes text) refl x 0 0
+    whole_is = endings_are name_of derived (lexemes text) refl x 0 0
 
-    entries-are : map toEntry whole ≡ roots 0 ps
-    entries-are = ap (map toEntry) whole_is ∙ headed-entries 0 ps hs (named-heads (lexemes text) derived)
+    entries_are : map to_entry whole ≡ roots 0 ps
+    entries_are = ap (map to_entry) whole_is ∙ headed_entries 0 ps hs (named_heads (lexemes text) derived)
 
     long : length before ≡ length ns
-    long = R.long ∙ sym (names-length text heads (length heads) (omega arith))
+    long = R.long ∙ sym (names_length text heads (length heads) (omega arith))
 
-    pub filling-all : length text ≤ 65535 → Filling ns before whole x 0 0 before (lexemes text)
-    filling-all h = record {
-      light = light-all text h;
+    pub filling_all : length text ≤ 65535 → Filling ns before whole x 0 0 before (lexemes text)
+    filling_all h = record {
+      light = light_all text h;
       long = long;
       good = rw whole_is
-          (headed-good ns 0 ps hs (omega (arith, size_is ps, R.small))
-          (λ n m. among n ∙ rw (named-heads (lexemes text) derived) at m));
+          (headed_good ns 0 ps hs (omega (arith, size_is ps, R.small))
+          (λ n m. among n ∙ rw (named_heads (lexemes text) derived) at m));
       fills = refl;
       lasts = refl;
     }
 
     -- WHAT IS FILLED IN AND COUNTED in the end, the start being the number that is kept for the first token's name.
-    module _ {t : lexer.Token} (L : Lexed text 0 t) {now : List ℕ} (e : now ≡ filled ns before (map toEntry whole)) where
+    module _ {t : lexer.Token} (L : Lexed text 0 t) {now : List ℕ} (e : now ≡ filled ns before (map to_entry whole)) where
       each : (n : Name) → get_or now (place n ns) 0 ≡ entry n (roots 0 ps)
       each n =
-          let named = roots-names 0 ps in
-          ap (λ l. get_or l (place n ns) 0) (e ∙ ap (filled ns before) entries-are)
-          ∙ filled-all ns before (roots 0 ps) (among-all ns (roots 0 ps) (λ n m. among n ∙ rw named at m)) (ap distinct named ∙ R.once) long
+          let named = roots_names 0 ps in
+          ap (λ l. get_or l (place n ns) 0) (e ∙ ap (filled ns before) entries_are)
+          ∙ filled_all ns before (roots 0 ps) (among_all ns (roots 0 ps) (λ n m. among n ∙ rw named at m)) (ap distinct named ∙ R.once) long
           (λ n. among n ∙ ap (member n) (sym named)) n
 
       pub rooted :
@@ -158,9 +158,9 @@ module _ {text heads before : List ℕ} (R : Rootable text heads before) where
           → Rooted text heads now r qs
       unfolding compile
       rooted {r} a b qs q =
-          subst (λ qs. Rooted text heads now r qs) (one-reading text ps qs R.reads q)
+          subst (λ qs. Rooted text heads now r qs) (one_reading text ps qs R.reads q)
           (record {
-            nodes = a ∙ ap (last_of 0) whole_is ∙ headed-last 0 ps hs (heads-length (lexemes text) derived)
+            nodes = a ∙ ap (last_of 0) whole_is ∙ headed_last 0 ps hs (heads_length (lexemes text) derived)
                 ∙ omega (arith, size_is ps);
             start = b ∙ each (name_at text t.name) ∙ (leads L).said;
             each = each;

@@ -13,8 +13,8 @@ use Rattle.notation.specs.Token as N
 use Rattle.notation.specs.Lexer.{Piece, piece, no, Skipped, past, unclosed, gap, token, lexed, lexemes}
 use Rattle.notation.specs.Lexical.{Spelled}
 use Rattle.notation.specs.LexicalText.{Yields, yields, no_way}
-use Rattle.notation.specs.LexicalToken.{token-sound}
-use Rattle.notation.specs.Places.{tokenPlace, namePlace}
+use Rattle.notation.specs.LexicalToken.{token_sound}
+use Rattle.notation.specs.Places.{token_place, namePlace}
 use Rattle.lexer.specs.Meant.{meant, placed, ahead, Lexed}
 use Rattle.lexer.specs.declared.token.Token.{Token}
 use Rattle.naming.specs.Told.{stopped, SpeltAs, Spelt}
@@ -38,9 +38,9 @@ proper text t low high =
     from P k 10 h (λ e. no_way (cc)) λ h e. omega arith
 
 -- The token in front of a text is spelled there.
-front-spelt : (s : List ℕ) (l : Lexeme) (ls : List Lexeme) → lexemes s ≡ l ∷ ls → (l.token ≡ bad → ⊥) → SpeltAs l.here l.token
+front_spelt : (s : List ℕ) (l : Lexeme) (ls : List Lexeme) → lexemes s ≡ l ∷ ls → (l.token ≡ bad → ⊥) → SpeltAs l.here l.token
 unfolding lexemes lexed
-front-spelt s l ls e n = go (gap s) refl
+front_spelt s l ls e n = go (gap s) refl
   where
     on : (b : ℕ) (u : List ℕ) → gap s ≡ past (b ∷ u) → (p : Piece N.Token) → token b u ≡ p → Yields (λ t r. Spelled t (b ∷ u) r) p → SpeltAs l.here l.token
     on b u g no f y = let z = rw (g, f, lexed) at e in absurd (n (cc))
@@ -52,7 +52,7 @@ front-spelt s l ls e n = go (gap s) refl
     go : (o : Skipped) → gap s ≡ o → SpeltAs l.here l.token
     go (unclosed c) g = let z = rw (g, lexed) at e in absurd (n (cc))
     go (past []) g = let z = rw (g, lexed) at e in no_way (cc)
-    go (past (b ∷ u)) g = on b u g (token b u) refl (token-sound b u)
+    go (past (b ∷ u)) g = on b u g (token b u) refl (token_sound b u)
 
 module _ {text : List ℕ} {at : ℕ} {t : Token} (L : Lexed text at t) where
   -- There is a token.
@@ -77,19 +77,19 @@ module _ {text : List ℕ} {at : ℕ} {t : Token} (L : Lexed text at t) where
         let k = is_one one in omega (arith, L.onward h, L.longer k.0 k.1, L.within k.0 k.1)
 
     -- Where its name is.
-    pub name-is : namePlace text (placed text t) ≡ t.name
-    name-is =
+    pub name_is : namePlace text (placed text t) ≡ t.name
+    name_is =
         let k = is_one one in
         let e = ap length (L.named k.0 k.1) in
-        omega (arith, e, length-drop t.name text, L.name-inside k.0 k.1)
+        omega (arith, e, length-drop t.name text, L.name_inside k.0 k.1)
 
     -- It is spelled where it begins.
     pub spelt : Spelt text t.start (meant text t)
     spelt =
         let k = is_one one in
-        front-spelt (drop at text) (placed text t) (lexemes (drop t.next text)) steps (proper text t k.0 k.1)
+        front_spelt (drop at text) (placed text t) (lexemes (drop t.next text)) steps (proper text t k.0 k.1)
 
-  pub place_is : tokenPlace text (placed text t) ≡ t.start
+  pub place_is : token_place text (placed text t) ≡ t.start
   place_is = omega (arith, length-drop t.start text, L.inside)
 
   -- Nothing more is there, but for what is no token.

@@ -16,16 +16,16 @@ turned true = refl
 turned false = refl
 
 module _ (heads defs : List Name) {t : Token} {n : Name} {x : List ℕ} {s : ℕ} (T : Tells t n x s) where
-  pub call-told : s ≡ 4 → undefined heads defs t ≡ not (member n heads)
+  pub call_told : s ≡ 4 → undefined heads defs t ≡ not (member n heads)
   unfolding all
-  call-told e =
+  call_told e =
       let k : asking s ≡ false = rw e in
       rw (T.calls ∙ ap (λ b. named b n) (eq-eqb s 4 e), T.asks ∙ ap (λ b. named b n) k) (turned (member n heads))
 
   module _ (other : s ≡ 4 → ⊥) where
-    pub ask-told : asking s ≡ true → undefined heads defs t ≡ not (member n defs)
+    pub ask_told : asking s ≡ true → undefined heads defs t ≡ not (member n defs)
     unfolding all
-    ask-told e =
+    ask_told e =
         rw (T.calls ∙ ap (λ b. named b n) (ne_eqb s 4 other), T.asks ∙ ap (λ b. named b n) e) (turned (member n defs))
 
     pub none_told : asking s ≡ false → undefined heads defs t ≡ false

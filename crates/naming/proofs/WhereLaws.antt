@@ -27,13 +27,13 @@ module _ (test : Token → Bool) (place : Lexeme → ℕ) (whole : List Lexeme) 
   passes l ls e s = rw e at s
 
   module _ {text : List ℕ} {at : ℕ} {t : lexer.Token} (L : Lexed text at t) (s : Still (lexemes (drop at text))) where
-    pub still-past : stopped t.kind ≡ false → test (meant text t) ≡ false → Still (lexemes (drop t.next text))
-    still-past one e = passes (placed text t) (lexemes (drop t.next text)) e (rw (steps L one) at s)
+    pub still_past : stopped t.kind ≡ false → test (meant text t) ≡ false → Still (lexemes (drop t.next text))
+    still_past one e = passes (placed text t) (lexemes (drop t.next text)) e (rw (steps L one) at s)
 
-    pub still-here : stopped t.kind ≡ false → test (meant text t) ≡ true → {p : ℕ} → place (placed text t) ≡ p → At p ≡ result
+    pub still_here : stopped t.kind ≡ false → test (meant text t) ≡ true → {p : ℕ} → place (placed text t) ≡ p → At p ≡ result
     unfolding firstWhere
-    still-here one e h = ap At (sym h) ∙ rw (steps L one, e) at s
+    still_here one e h = ap At (sym h) ∙ rw (steps L one, e) at s
 
-    pub still-over : stopped t.kind ≡ true → test bad ≡ false → Nowhere ≡ result
+    pub still_over : stopped t.kind ≡ true → test bad ≡ false → Nowhere ≡ result
     unfolding firstWhere
-    still-over e b = over L e Still (λ l k. passes l [] (ap test k ∙ b)) s
+    still_over e b = over L e Still (λ l k. passes l [] (ap test k ∙ b)) s

@@ -12,8 +12,8 @@ found place none = Nowhere
 found place (some l) = At (place l)
 
 -- A place, if a test holds of it.
-abbrev pub hereIf : Bool → ℕ → Found
-hereIf holds place = pick holds (At place) Nowhere
+abbrev pub here_if : Bool → ℕ → Found
+here_if holds place = pick holds (At place) Nowhere
 
 -- The first of two.
 abbrev pub or_else : Found → Found → Found

@@ -6,15 +6,15 @@ use Rattle.notation.specs.Token.{Token, Lexeme}
 use Rattle.notation.specs.Lexer.{lexemes}
 use Rattle.notation.specs.At.{name_at}
 use Rattle.notation.specs.Compile.{insert}
-use Rattle.notation.specs.Uses.{head_of, def_of, switchOf}
-use Rattle.notation.specs.Places.{firstName, again, ninth, namePlace}
+use Rattle.notation.specs.Uses.{head_of, def_of, switch_of}
+use Rattle.notation.specs.Places.{first_name, again, ninth, namePlace}
 use Rattle.index.specs.Listed.{names_at}
-use Rattle.naming.specs.Found.{found, hereIf, or_else}
+use Rattle.naming.specs.Found.{found, here_if, or_else}
 use Rattle.naming.specs.declared.gather.Gathered.{Gathered}
 
 -- The names of a sort: 0 those of productions, 1 those of the tables that are defined, 2 those of conditions.
-abbrev pub sortOf : ℕ → Token → List Name
-sortOf sort = pick (eqb sort 0) head_of (pick (eqb sort 1) def_of switchOf)
+abbrev pub sort_of : ℕ → Token → List Name
+sort_of sort = pick (eqb sort 0) head_of (pick (eqb sort 1) def_of switch_of)
 
 -- Names put among others, one after the other.
 unfoldable pub inserted : List Name → List Name → List Name
@@ -31,13 +31,13 @@ gathered names before (l ∷ ls) = gathered names (inserted (names l.token) befo
 pub record Gathers (names : Token → List Name) (text at : List ℕ) (r : Gathered) : Type 0 where
   pub listed : names_at text at r.count ≡ gathered names [] (lexemes text)
   pub many : r.count ≡ length (gathered names [] (lexemes text))
-  pub again : r.again ≡ found (namePlace text) (firstName names again [] (lexemes text))
-  pub ninth : r.ninth ≡ found (namePlace text) (firstName names ninth [] (lexemes text))
+  pub again : r.again ≡ found (namePlace text) (first_name names again [] (lexemes text))
+  pub ninth : r.ninth ≡ found (namePlace text) (first_name names ninth [] (lexemes text))
 
 -- What adding the name at a place to what is gathered comes to.
 pub record Adds (text at : List ℕ) (g : Gathered) (p : ℕ) (now : List ℕ) (r : Gathered) : Type 0 where
   pub listed : names_at text now r.count ≡ insert (name_at text p) (names_at text at g.count)
   pub within : r.count ≤ length now
   pub long : length now ≡ length at
-  pub again : r.again ≡ or_else g.again (hereIf (again (names_at text at g.count) (name_at text p)) p)
-  pub ninth : r.ninth ≡ or_else g.ninth (hereIf (ninth (names_at text at g.count) (name_at text p)) p)
+  pub again : r.again ≡ or_else g.again (here_if (again (names_at text at g.count) (name_at text p)) p)
+  pub ninth : r.ninth ≡ or_else g.ninth (here_if (ninth (names_at text at g.count) (name_at text p)) p)

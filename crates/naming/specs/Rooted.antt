@@ -5,7 +5,7 @@ use Rattle.grammar.specs.Grammar.{size}
 use Rattle.notation.specs.Tree.{Name, Production}
 use Rattle.notation.specs.Text.{ReadsAs}
 use Rattle.notation.specs.At.{name_at}
-use Rattle.notation.specs.Naming.{names, member, onceNamed}
+use Rattle.notation.specs.Naming.{names, member, once_named}
 use Rattle.notation.specs.Compile.{sorted, place, entry, compile}
 use Rattle.notation.specs.Compile as Compile
 use Rattle.index.specs.Listed.{names_at, Ascending}
@@ -17,7 +17,7 @@ pub record Rootable (text heads roots : List ℕ) : Type 0 where
   pub productions : List Production
   pub reads : ReadsAs text productions
   pub small : size (compile productions) ≤ 512
-  pub once : onceNamed productions ≡ true
+  pub once : once_named productions ≡ true
   pub listed : names_at text heads (length heads) ≡ sorted (names productions)
   pub long : length roots ≡ length heads
 
@@ -36,8 +36,8 @@ pub record Listed (text heads roots : List ℕ) (name : ℕ) : Type 0 where
   pub long : length roots ≡ length heads
 
 -- The number at the name's place.
-abbrev pub rootAt : (text heads : List ℕ) (name : ℕ) → ℕ
-rootAt text heads name = place (name_at text name) (names_at text heads (length heads))
+abbrev pub root_at : (text heads : List ℕ) (name : ℕ) → ℕ
+root_at text heads name = place (name_at text name) (names_at text heads (length heads))
 
 -- A production that is open can end: there are nodes before its end, and not too many.
 pub record Settles (text heads roots : List ℕ) (name nodes weight : ℕ) : Type 0 where
@@ -49,4 +49,4 @@ pub record Settles (text heads roots : List ℕ) (name nodes weight : ℕ) : Typ
 -- What is open ends, if anything weighs: its own node is the last of its nodes.
 pub record Settled (text heads roots : List ℕ) (name nodes weight : ℕ) (now : List ℕ) (r : ℕ) : Type 0 where
   pub end : r ≡ nodes + (weight - 1)
-  pub filled : now ≡ pick (eqb weight 0) roots (set roots (rootAt text heads name) (nodes + (weight - 1) - 1))
+  pub filled : now ≡ pick (eqb weight 0) roots (set roots (root_at text heads name) (nodes + (weight - 1) - 1))

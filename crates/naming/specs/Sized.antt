@@ -6,11 +6,11 @@ use Rattle.notation.specs.Compile.{count}
 use Rattle.notation.specs.Places.{imageUpTo}
 
 -- How many nodes productions come to.
-abbrev pub nodesOf : List Production → ℕ
-nodesOf [] = 0
-nodesOf (p ∷ ps) = count p.body + nodesOf ps
+abbrev pub nodes_of : List Production → ℕ
+nodes_of [] = 0
+nodes_of (p ∷ ps) = count p.body + nodes_of ps
 
 -- There is an end for each production, and counted from the base it is where the nodes of the productions up to that one end.
 pub record Sized (g : Grammar) (base : ℕ) (ends : List ℕ) (ps : List Production) : Type 0 where
   pub many : length ps ≤ length ends
-  pub each : (i : ℕ) → i < length ps → base + get_or ends i 0 ≡ imageUpTo g (nodesOf (take (suc i) ps))
+  pub each : (i : ℕ) → i < length ps → base + get_or ends i 0 ≡ imageUpTo g (nodes_of (take (suc i) ps))

@@ -4,9 +4,9 @@ use Rattle.format.specs.Reading.{pick}
 use Rattle.notation.specs.Tree.{Name, quoted}
 use Rattle.notation.specs.Token.{leaf}
 use Rattle.notation.specs.Token as N
-use Rattle.notation.specs.At.{name_at, quotedOf, parts_of}
+use Rattle.notation.specs.At.{name_at, quoted_of, parts_of}
 use Rattle.notation.specs.Lexical.{Spelled}
-use Rattle.notation.specs.Uses.{head_of, call_of, def_of, askOf, switchOf, quotedIn}
+use Rattle.notation.specs.Uses.{head_of, call_of, def_of, ask_of, switch_of, quoted_in}
 use Rattle.lexer.specs.Meant.{meant}
 use Rattle.lexer.specs.declared.token.Token.{Token}
 
@@ -32,13 +32,13 @@ pub record Tells (t : N.Token) (n : Name) (x : List ℕ) (s : ℕ) : Type 0 wher
   pub heads : head_of t ≡ named (eqb s 0) n
   pub calls : call_of t ≡ named (eqb s 4) n
   pub defs : def_of t ≡ named (eqb s 10) n
-  pub asks : askOf t ≡ named (asking s) n
-  pub switches : switchOf t ≡ named (pick (eqb s 9) true (eqb s 13)) n
-  pub texts : quotedIn t ≡ named (eqb s 2) x
+  pub asks : ask_of t ≡ named (asking s) n
+  pub switches : switch_of t ≡ named (pick (eqb s 9) true (eqb s 13)) n
+  pub texts : quoted_in t ≡ named (eqb s 2) x
   pub text : If (eqb s 2) (t ≡ leaf (quoted x))
 
 abbrev pub TellsIn : List ℕ → Token → ℕ → Type 0
-TellsIn text t s = Tells (meant text t) (name_at text t.name) (quotedOf (drop t.start text)) s
+TellsIn text t s = Tells (meant text t) (name_at text t.name) (quoted_of (drop t.start text)) s
 
 -- A token is spelled at the front of some bytes; and at a place of a text.
 pub record SpeltAs (s : List ℕ) (t : N.Token) : Type 0 where

@@ -9,36 +9,36 @@ use Rattle.notation.specs.Text.{ReadsAs}
 use Rattle.notation.specs.Lexer.{lexemes}
 use Rattle.notation.specs.Naming.{all, member, names, definitions}
 use Rattle.notation.specs.MemberLaws.{SameMembers}
-use Rattle.notation.specs.OrderLaws.{sorted-member}
-use Rattle.notation.specs.Uses.{head_of, call_of, def_of, askOf}
+use Rattle.notation.specs.OrderLaws.{sorted_member}
+use Rattle.notation.specs.Uses.{head_of, call_of, def_of, ask_of}
 use Rattle.notation.specs.Places.{firstWhere, undefined}
 use Rattle.naming.specs.Gathered.{gathered}
-use Rattle.naming.specs.GatheredLaws.{heads-gathered, defs-gathered}
+use Rattle.naming.specs.GatheredLaws.{heads_gathered, defs_gathered}
 
 all_alike : (f g : Name → Bool) → ((n : Name) → f n ≡ g n) → (ns : List Name) → all f ns ≡ all g ns
 unfolding all
 all_alike f g h [] = refl
 all_alike f g h (n ∷ ns) = ap₂ (λ a b. pick a b false) (h n) (all_alike f g h ns)
 
-where-alike : (f g : Token → Bool) → ((t : Token) → f t ≡ g t) → (ls : List Lexeme) → firstWhere f ls ≡ firstWhere g ls
+where_alike : (f g : Token → Bool) → ((t : Token) → f t ≡ g t) → (ls : List Lexeme) → firstWhere f ls ≡ firstWhere g ls
 unfolding firstWhere
-where-alike f g h [] = refl
-where-alike f g h (l ∷ ls) = ap₂ (λ b o. pick b (some l) o) (h l.token) (where-alike f g h ls)
+where_alike f g h [] = refl
+where_alike f g h (l ∷ ls) = ap₂ (λ b o. pick b (some l) o) (h l.token) (where_alike f g h ls)
 
-pub undefined-alike :
+pub undefined_alike :
     (heads heads' defs defs' : List Name) → SameMembers heads heads' → SameMembers defs defs' → (ls : List Lexeme)
     → firstWhere (undefined heads defs) ls ≡ firstWhere (undefined heads' defs') ls
-undefined-alike heads heads' defs defs' a b =
-    where-alike (undefined heads defs) (undefined heads' defs')
+undefined_alike heads heads' defs defs' a b =
+    where_alike (undefined heads defs) (undefined heads' defs')
     (λ t. ap₂ (λ x y. pick x (pick y false true) true) (all_alike (λ n. member n heads) (λ n. member n heads') a (call_of t))
-    (all_alike (λ n. member n defs) (λ n. member n defs') b (askOf t)))
+    (all_alike (λ n. member n defs) (λ n. member n defs') b (ask_of t)))
 
 -- WHAT IS GATHERED DECIDES IT, of a text that reads as productions.
-pub undefined-gathered :
+pub undefined_gathered :
     {text : List ℕ} {ps : List Production} → ReadsAs text ps → (ls : List Lexeme)
     → firstWhere (undefined (gathered head_of [] (lexemes text)) (gathered def_of [] (lexemes text))) ls
     ≡ firstWhere (undefined (names ps) (map (λ d. d.table) (definitions ps))) ls
-undefined-gathered {text} {ps} r =
-    undefined-alike (gathered head_of [] (lexemes text)) (names ps) (gathered def_of [] (lexemes text)) (map (λ d. d.table) (definitions ps))
-    (λ n. ap (member n) (heads-gathered r) ∙ sorted-member n (names ps))
-    (λ n. ap (member n) (defs-gathered r) ∙ sorted-member n (map (λ d. d.table) (definitions ps)))
+undefined_gathered {text} {ps} r =
+    undefined_alike (gathered head_of [] (lexemes text)) (names ps) (gathered def_of [] (lexemes text)) (map (λ d. d.table) (definitions ps))
+    (λ n. ap (member n) (heads_gathered r) ∙ sorted_member n (names ps))
+    (λ n. ap (member n) (defs_gathered r) ∙ sorted_member n (map (λ d. d.table) (definitions ps)))

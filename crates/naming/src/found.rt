@@ -1,6 +1,6 @@
 // Where in a text something was found.
 ghost use Rattle.std.specs.Prelude.{◌≡◌};
-ghost use Rattle.naming.specs.Found.{hereIf, or_else};
+ghost use Rattle.naming.specs.Found.{here_if, or_else};
 
 // The place of it, or that it is nowhere.
 #[derive(Drop)]
@@ -11,7 +11,7 @@ pub enum Found {
 
 // What was found before; or else this place, if a test holds of it.
 pub(crate) fn first_of(before: Found, holds: bool, place: usize) -> Found
-    ensures { result ≡ or_else before (hereIf holds place) }
+    ensures { result ≡ or_else before (here_if holds place) }
 {
     match before {
         Found::At(p) => Found::At(p),

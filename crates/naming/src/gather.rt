@@ -5,7 +5,7 @@ ghost use Rattle.notation.specs.At.{name_at};
 ghost use Rattle.index.specs.Listed.{names_at, Ascending};
 ghost use Rattle.lexer.specs.Meant.{Numbers, meant};
 ghost use Rattle.naming.specs.Told.{named};
-ghost use Rattle.naming.specs.Gathered.{sortOf, gathered, Gathers, Adds};
+ghost use Rattle.naming.specs.Gathered.{sort_of, gathered, Gathers, Adds};
 
 use crate::found::{Found, first_of};
 use crate::told::{said, stops};
@@ -23,7 +23,7 @@ pub struct Gathered {
 // Whether a token names one of a sort.
 fn is_of(t: Token, sort: u8) -> bool
     requires { Numbers t.kind t.symbol }
-    ensures { (text : List ℕ) → sortOf sort (meant text t) ≡ named result (name_at text t.name) }
+    ensures { (text : List ℕ) → sort_of sort (meant text t) ≡ named result (name_at text t.name) }
 {
     let s = said(t);
     if sort == 0 {
@@ -56,8 +56,8 @@ fn add(text: &[u8], at: &mut [u16], g: Gathered, p: usize) -> Gathered
 
 // Gathers the names of a sort: 0 those of productions, 1 those of the tables that are defined, 2 those of conditions.
 pub fn gather(text: &[u8], at: &mut [u16], sort: u8) -> Gathered
-    requires { (length text.now ≤ 65535) × (length (gathered (sortOf sort) [] (lexemes text.now)) < length at.old) }
-    ensures { Gathers (sortOf sort) text.now at.new result }
+    requires { (length text.now ≤ 65535) × (length (gathered (sort_of sort) [] (lexemes text.now)) < length at.old) }
+    ensures { Gathers (sort_of sort) text.now at.new result }
 {
     let mut g = Gathered {
         count: 0,

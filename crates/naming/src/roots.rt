@@ -2,7 +2,7 @@
 ghost use Rattle.std.specs.Prelude.{◌≡◌, List, ◌-◌, ◌≤◌, length, get_or, set};
 ghost use Rattle.notation.specs.Tree.{Production};
 ghost use Rattle.notation.specs.Text.{ReadsAs};
-ghost use Rattle.naming.specs.Rooted.{Rootable, Rooted, Listed, rootAt, Settles, Settled};
+ghost use Rattle.naming.specs.Rooted.{Rootable, Rooted, Listed, root_at, Settles, Settled};
 
 use crate::number::wide;
 use crate::told::stops;
@@ -20,7 +20,7 @@ pub struct Counted {
 // The number that is kept for the name at a place.
 fn root_of(text: &[u8], heads: &[u16], roots: &[u16], name: usize) -> usize
     requires { Listed text.now heads.now roots.now name }
-    ensures { result ≡ get_or roots.now (rootAt text.now heads.now name) 0 }
+    ensures { result ≡ get_or roots.now (root_at text.now heads.now name) 0 }
 {
     let sought = seek(text, heads, heads.len(), name);
     let index = sought.index;
@@ -30,7 +30,7 @@ fn root_of(text: &[u8], heads: &[u16], roots: &[u16], name: usize) -> usize
 // Keeps the last node before an end for the name at a place.
 fn put_root(text: &[u8], heads: &[u16], roots: &mut [u16], name: usize, end: usize)
     requires { Listed text.now heads.now roots.old name × (1 ≤ end) × (end ≤ 512) }
-    ensures { roots.new ≡ set roots.old (rootAt text.now heads.now name) (end - 1) }
+    ensures { roots.new ≡ set roots.old (root_at text.now heads.now name) (end - 1) }
 {
     let sought = seek(text, heads, heads.len(), name);
     let index = sought.index;

@@ -1,6 +1,6 @@
 // What a text's tokens weigh: one more than the nodes that an expression's come to.
 ghost use Rattle.std.specs.Prelude.{◌≡◌, ◌+◌, ◌-◌, ◌≤◌};
-ghost use Rattle.notation.specs.Counts.{weightOf};
+ghost use Rattle.notation.specs.Counts.{weight_of};
 ghost use Rattle.lexer.specs.Meant.{meant};
 ghost use Rattle.naming.specs.Told.{Spelt, Parted};
 
@@ -10,7 +10,7 @@ use lexer::token::Token;
 // The weight of what holds no expression: a class weighs twice as much as it has parts, and anything else 2.
 fn leaf_weight(text: &[u8], t: Token) -> usize
     requires { (t.kind ≡ 5) × Spelt text.now t.start (meant text.now t) × Parted text.now t }
-    ensures { result ≡ weightOf (meant text.now t) }
+    ensures { result ≡ weight_of (meant text.now t) }
 {
     if t.symbol != 3 {
         return 2;
@@ -21,7 +21,7 @@ fn leaf_weight(text: &[u8], t: Token) -> usize
 // The weight of a token.
 pub(crate) fn weight_of(text: &[u8], t: Token) -> usize
     requires { Spelt text.now t.start (meant text.now t) × Parted text.now t }
-    ensures { result ≡ weightOf (meant text.now t) }
+    ensures { result ≡ weight_of (meant text.now t) }
 {
     let kind = t.kind;
     if kind == 5 {

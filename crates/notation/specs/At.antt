@@ -1,7 +1,7 @@
 -- What stands at a place of a text, as the code's places name it: a place is a number of bytes from the text's front.
 use Rattle.std.specs.Prelude.{ℕ, List, [], ◌∷◌, drop}
 use Rattle.notation.specs.Tree.{Name, Part, Leaf, any, class}
-use Rattle.notation.specs.Lexer.{Piece, piece, no, nameFront, fresh, quote, begin, parts}
+use Rattle.notation.specs.Lexer.{Piece, piece, no, name_front, fresh, quote, begin, parts}
 
 -- The value of a piece; where there is none, the empty list.
 abbrev pub value : {A : Type 0} → Piece (List A) → List A
@@ -10,12 +10,12 @@ value no = []
 
 -- The name that stands at a place.
 abbrev pub name_at : List ℕ → ℕ → Name
-name_at text p = nameFront (drop p text)
+name_at text p = name_front (drop p text)
 
 -- The bytes that quoted text stands for, its mark being the front byte.
-unfoldable pub quotedOf : List ℕ → List ℕ
-quotedOf [] = []
-quotedOf (mark ∷ s) = value (quote mark fresh s)
+unfoldable pub quoted_of : List ℕ → List ℕ
+quoted_of [] = []
+quoted_of (mark ∷ s) = value (quote mark fresh s)
 
 -- The parts of a class, its `[` being the front byte.
 unfoldable pub parts_of : List ℕ → List Part

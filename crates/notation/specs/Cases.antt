@@ -3,16 +3,16 @@ use Rattle.std.specs.Prelude.{ℕ, ◌≡◌, refl, true, false, List, [], ◌�
 use Rattle.grammar.specs.Expr.{Expr, Empty, Byte, Range, Any, Text, Sequence, Choice, Star, Not, Call, Def, Match, Is, Isa, Exists, Block, Local, If, On}
 use Rattle.grammar.specs.Grammar.{Grammar}
 use Rattle.format.specs.Written.{encode}
-use Rattle.format.specs.Cases.{harbourGrammar}
+use Rattle.format.specs.Cases.{harbour_grammar}
 use Rattle.notation.specs.Bytes.{bytes}
-use Rattle.notation.specs.Stream.{post, symbols, ◌▸▸◌, close, whole, inBracket, inAngle, stream}
-use Rattle.notation.specs.Lexer.{skip, front, second, blockOn, starOn, nameFront, nameBehind, nameHere, signHere, truthHere, quote, atMark, feed, high, low, simple, turn, begun, ranged, ◌++ᵖ◌, ◌∷ᵖ◌, ◌then◌, parts, same, word, operator, namedHere, classed, classHere, token, lexed, lexemes, tokens}
+use Rattle.notation.specs.Stream.{post, symbols, ◌▸▸◌, close, whole, in_bracket, in_angle, stream}
+use Rattle.notation.specs.Lexer.{skip, front, second, block_on, star_on, name_front, name_behind, name_here, sign_here, truth_here, quote, at_mark, feed, high, low, simple, turn, begun, ranged, ◌++ᵖ◌, ◌∷ᵖ◌, ◌then◌, parts, same, word, operator, named_here, classed, class_here, token, lexed, lexemes, tokens}
 use Rattle.notation.specs.Reader.{grow, trees, came, reads, unread, parsed}
-use Rattle.notation.specs.Symbols.{sameSymbols}
+use Rattle.notation.specs.Symbols.{same_symbols}
 use Rattle.notation.specs.Naming.{member, all, distinct, agree}
-use Rattle.notation.specs.Compile.{order, insert, sorted, place, entry, count, choices, emit, emitAll, roots, patternsIn, patternsAll, first, compile}
-use Rattle.notation.specs.Uses.{perToken}
-use Rattle.notation.specs.Places.{behindTruth, nameIn, tokenPlace, firstWhere, firstName, firstOver, imageUpTo, only, numbered}
+use Rattle.notation.specs.Compile.{order, insert, sorted, place, entry, count, choices, emit, emit_all, roots, patterns_in, patterns_all, first, compile}
+use Rattle.notation.specs.Uses.{per_token}
+use Rattle.notation.specs.Places.{behind_truth, name_in, token_place, firstWhere, first_name, firstOver, imageUpTo, only, numbered}
 use Rattle.notation.specs.OnePattern.{failing}
 use Rattle.notation.specs.Judged.{Answer, good, refused, judged}
 
@@ -21,8 +21,8 @@ unfoldable answered : ℕ → List ℕ → Answer
 answered room text = elim (parsed (tokens text)) [ unread ↦ refused 20 0 | reads ps ↦ judged text room ps (lexemes text) ]
 
 -- 01's image H, as text: the very same grammar.
-harbour : answered 16384 (bytes "S = <def T [A-Z]+> '=' <is T>") ≡ good harbourGrammar
-unfolding post symbols ◌▸▸◌ close whole inBracket inAngle stream skip front second blockOn starOn nameFront nameBehind nameHere signHere truthHere quote atMark feed high low simple turn begun ranged ◌++ᵖ◌ ◌∷ᵖ◌ ◌then◌ parts same word operator namedHere classed classHere token lexed lexemes grow trees came parsed sameSymbols member all distinct agree order insert sorted place entry count choices emit emitAll roots patternsIn patternsAll first compile behindTruth nameIn firstWhere firstName firstOver imageUpTo only numbered failing judged answered
+harbour : answered 16384 (bytes "S = <def T [A-Z]+> '=' <is T>") ≡ good harbour_grammar
+unfolding post symbols ◌▸▸◌ close whole in_bracket in_angle stream skip front second block_on star_on name_front name_behind name_here sign_here truth_here quote at_mark feed high low simple turn begun ranged ◌++ᵖ◌ ◌∷ᵖ◌ ◌then◌ parts same word operator named_here classed class_here token lexed lexemes grow trees came parsed same_symbols member all distinct agree order insert sorted place entry count choices emit emit_all roots patterns_in patterns_all first compile behind_truth name_in firstWhere first_name firstOver imageUpTo only numbered failing judged answered
 harbour = refl
 
 -- Document 004, section 3.2: nested tags.
@@ -38,7 +38,7 @@ tags :
           ∷ Sequence 10 11 ∷ Sequence 9 12 ∷ Sequence 8 13 ∷ Sequence 5 14 ∷ Sequence 4 15 ∷ Sequence 2 16
           ∷ Range 65 122 ∷ Range 65 122 ∷ Range 48 57 ∷ Choice 19 20 ∷ Star 21 ∷ Sequence 18 22 ∷ [];
     })
-unfolding post symbols ◌▸▸◌ close whole inBracket inAngle stream skip front second blockOn starOn nameFront nameBehind nameHere signHere truthHere quote atMark feed high low simple turn begun ranged ◌++ᵖ◌ ◌∷ᵖ◌ ◌then◌ parts same word operator namedHere classed classHere token lexed lexemes grow trees came parsed sameSymbols member all distinct agree order insert sorted place entry count choices emit emitAll roots patternsIn patternsAll first compile behindTruth nameIn firstWhere firstName firstOver imageUpTo only numbered failing judged answered
+unfolding post symbols ◌▸▸◌ close whole in_bracket in_angle stream skip front second block_on star_on name_front name_behind name_here sign_here truth_here quote at_mark feed high low simple turn begun ranged ◌++ᵖ◌ ◌∷ᵖ◌ ◌then◌ parts same word operator named_here classed class_here token lexed lexemes grow trees came parsed same_symbols member all distinct agree order insert sorted place entry count choices emit emit_all roots patterns_in patterns_all first compile behind_truth name_in firstWhere first_name firstOver imageUpTo only numbered failing judged answered
 tags = refl
 
 -- The refusal's number, and 0 for a good text.
@@ -59,7 +59,7 @@ refusals :
     ∷ (bytes "A = '" ++ (replicate 64 46 ++ bytes "'")) ∷ (bytes "A = '" ++ (replicate 65 46 ++ bytes "'"))
     ∷ [])
     ≡ 20 ∷ 20 ∷ 20 ∷ 20 ∷ 20 ∷ 20 ∷ 20 ∷ 20 ∷ 21 ∷ 21 ∷ 21 ∷ 22 ∷ 22 ∷ 23 ∷ 0 ∷ 0 ∷ 24 ∷ 23 ∷ 0 ∷ 24 ∷ []
-unfolding post symbols ◌▸▸◌ close whole inBracket inAngle stream skip front second blockOn starOn nameFront nameBehind nameHere signHere truthHere quote atMark feed high low simple turn begun ranged ◌++ᵖ◌ ◌∷ᵖ◌ ◌then◌ parts same word operator namedHere classed classHere token lexed lexemes grow trees came parsed sameSymbols member all distinct agree order insert sorted place entry count choices emit emitAll roots patternsIn patternsAll first compile behindTruth nameIn firstWhere firstName firstOver imageUpTo only numbered failing judged answered
+unfolding post symbols ◌▸▸◌ close whole in_bracket in_angle stream skip front second block_on star_on name_front name_behind name_here sign_here truth_here quote at_mark feed high low simple turn begun ranged ◌++ᵖ◌ ◌∷ᵖ◌ ◌then◌ parts same word operator named_here classed class_here token lexed lexemes grow trees came parsed same_symbols member all distinct agree order insert sorted place entry count choices emit emit_all roots patterns_in patterns_all first compile behind_truth name_in firstWhere first_name firstOver imageUpTo only numbered failing judged answered
 refusals = refl
 
 -- Where the trouble is. In order: an undefined name; a table without a def, in angle brackets with blanks and a comment; an undefined name behind a condition; the second
@@ -73,19 +73,19 @@ placed :
     ∷ (bytes "A = . '" ++ (replicate 65 46 ++ bytes "'"))
     ∷ (bytes "A = . B = " ++ (replicate 256 46 ++ bytes " C = .")) ∷ [])
     ≡ refused 21 4 ∷ refused 21 8 ∷ refused 21 17 ∷ refused 21 13 ∷ refused 22 12 ∷ refused 23 14 ∷ refused 24 99 ∷ refused 24 80 ∷ refused 24 6 ∷ refused 24 267 ∷ []
-unfolding post symbols ◌▸▸◌ close whole inBracket inAngle stream skip front second blockOn starOn nameFront nameBehind nameHere signHere truthHere quote atMark feed high low simple turn begun ranged ◌++ᵖ◌ ◌∷ᵖ◌ ◌then◌ parts same word operator namedHere classed classHere token lexed lexemes grow trees came parsed sameSymbols member all distinct agree order insert sorted place entry count choices emit emitAll roots patternsIn patternsAll first compile behindTruth nameIn firstWhere firstName firstOver imageUpTo only numbered failing judged answered
+unfolding post symbols ◌▸▸◌ close whole in_bracket in_angle stream skip front second block_on star_on name_front name_behind name_here sign_here truth_here quote at_mark feed high low simple turn begun ranged ◌++ᵖ◌ ◌∷ᵖ◌ ◌then◌ parts same word operator named_here classed class_here token lexed lexemes grow trees came parsed same_symbols member all distinct agree order insert sorted place entry count choices emit emit_all roots patterns_in patterns_all first compile behind_truth name_in firstWhere first_name firstOver imageUpTo only numbered failing judged answered
 placed = refl
 
 -- An image of 6 bytes: no room in a buffer of 5, and enough in one of 6.
 roomed : map (λ room. number (answered room (bytes "A = ''"))) (5 ∷ 6 ∷ []) ≡ 25 ∷ 0 ∷ []
-unfolding post symbols ◌▸▸◌ close whole inBracket inAngle stream skip front second blockOn starOn nameFront nameBehind nameHere signHere truthHere quote atMark feed high low simple turn begun ranged ◌++ᵖ◌ ◌∷ᵖ◌ ◌then◌ parts same word operator namedHere classed classHere token lexed lexemes grow trees came parsed sameSymbols member all distinct agree order insert sorted place entry count choices emit emitAll roots patternsIn patternsAll first compile behindTruth nameIn firstWhere firstName firstOver imageUpTo only numbered failing judged answered
+unfolding post symbols ◌▸▸◌ close whole in_bracket in_angle stream skip front second block_on star_on name_front name_behind name_here sign_here truth_here quote at_mark feed high low simple turn begun ranged ◌++ᵖ◌ ◌∷ᵖ◌ ◌then◌ parts same word operator named_here classed class_here token lexed lexemes grow trees came parsed same_symbols member all distinct agree order insert sorted place entry count choices emit emit_all roots patterns_in patterns_all first compile behind_truth name_in firstWhere first_name firstOver imageUpTo only numbered failing judged answered
 roomed = refl
 
 -- Where tokens stand, and the last of them where they stop: a comment that does not close, behind a name and behind a name with which a text begins; what is no token; an
 -- operator in which a comment does not close.
 stopped :
-    map (λ t. map (tokenPlace t) (lexemes t)) (
+    map (λ t. map (token_place t) (lexemes t)) (
     bytes "A = b /* c" ∷ bytes "A /**/ /* = ." ∷ bytes "A = . // c\n 'b" ∷ bytes "A = < is /* c" ∷ [])
     ≡ (0 ∷ 4 ∷ 6 ∷ []) ∷ (0 ∷ 7 ∷ []) ∷ (0 ∷ 4 ∷ 12 ∷ []) ∷ (0 ∷ 4 ∷ []) ∷ []
-unfolding skip front second blockOn starOn nameFront nameBehind nameHere signHere quote atMark feed simple ◌∷ᵖ◌ ◌then◌ same word operator namedHere token lexed lexemes
+unfolding skip front second block_on star_on name_front name_behind name_here sign_here quote at_mark feed simple ◌∷ᵖ◌ ◌then◌ same word operator named_here token lexed lexemes
 stopped = refl

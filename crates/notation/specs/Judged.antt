@@ -9,8 +9,8 @@ use Rattle.notation.specs.Tree.{Production}
 use Rattle.notation.specs.Token.{Lexeme}
 use Rattle.notation.specs.Naming.{names, definitions}
 use Rattle.notation.specs.Compile.{compile}
-use Rattle.notation.specs.Uses.{head_of, def_of, switchOf}
-use Rattle.notation.specs.Places.{tokenPlace, namePlace, firstWhere, firstName, undefined, again, ninth, long, firstOver, imageUpTo, isHead, only, unlike}
+use Rattle.notation.specs.Uses.{head_of, def_of, switch_of}
+use Rattle.notation.specs.Places.{token_place, namePlace, firstWhere, first_name, undefined, again, ninth, long, firstOver, imageUpTo, isHead, only, unlike}
 
 pub data Answer : Type 0 where
   good : Grammar → Answer
@@ -24,24 +24,24 @@ or_else none found otherwise = otherwise
 -- 24, "past a limit of 01": at most 8 tables, 8 conditions, 64 bytes in a quoted text, 512 nodes, 16,384 bytes in the image. Then 25.
 module _ (text : List ℕ) (room : ℕ) (ps : List Production) (ls : List Lexeme) where
   -- At a token's name, or at the token itself.
-  abbrev pub atName : ℕ → Lexeme → Answer
-  atName number l = refused number (namePlace text l)
+  abbrev pub at_name : ℕ → Lexeme → Answer
+  at_name number l = refused number (namePlace text l)
 
-  abbrev pub atToken : ℕ → Lexeme → Answer
-  atToken number l = refused number (tokenPlace text l)
+  abbrev pub at_token : ℕ → Lexeme → Answer
+  at_token number l = refused number (token_place text l)
 
   abbrev pub limited : Grammar → Answer
   limited g =
-      or_else (firstName def_of ninth [] ls) (atName 24)
-      (or_else (firstName switchOf ninth [] ls) (atName 24)
-      (or_else (firstWhere long ls) (atToken 24)
-      (or_else (firstOver 512 (λ n. n) 0 ps (only isHead ls)) (atName 24)
-      (or_else (firstOver 16384 (imageUpTo g) 0 ps (only isHead ls)) (atName 24)
+      or_else (first_name def_of ninth [] ls) (at_name 24)
+      (or_else (first_name switch_of ninth [] ls) (at_name 24)
+      (or_else (firstWhere long ls) (at_token 24)
+      (or_else (firstOver 512 (λ n. n) 0 ps (only isHead ls)) (at_name 24)
+      (or_else (firstOver 16384 (imageUpTo g) 0 ps (only isHead ls)) (at_name 24)
       (pick (leb (length (encode g)) room) (good g) (refused 25 0))))))
 
   -- 21, 22, 23, and then the limits.
   unfoldable pub judged : Answer
   judged =
-      or_else (firstWhere (undefined (names ps) (map (λ d. d.table) (definitions ps))) ls) (atName 21)
-      (or_else (firstName head_of again [] ls) (atName 22)
-      (or_else (unlike (definitions ps) ls) (atToken 23) (limited (compile ps))))
+      or_else (firstWhere (undefined (names ps) (map (λ d. d.table) (definitions ps))) ls) (at_name 21)
+      (or_else (first_name head_of again [] ls) (at_name 22)
+      (or_else (unlike (definitions ps) ls) (at_token 23) (limited (compile ps))))

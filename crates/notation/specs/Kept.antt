@@ -4,15 +4,15 @@ use Rattle.format.specs.Written.{encode}
 use Rattle.grammar.specs.Grammar.{Grammar}
 use Rattle.notation.specs.Tree.{Production}
 use Rattle.notation.specs.Text.{ReadsAs}
-use Rattle.notation.specs.Naming.{allDefined, onceNamed, onePattern}
+use Rattle.notation.specs.Naming.{all_defined, once_named, one_pattern}
 use Rattle.notation.specs.Limits.{fits}
 use Rattle.notation.specs.Compile.{compile}
 
 -- The reading keeps the naming rules, and its grammar the limits.
 pub record Keeps (ps : List Production) : Type 0 where
-  pub all-defined : allDefined ps ≡ true
-  pub once-named : onceNamed ps ≡ true
-  pub one-pattern : onePattern ps ≡ true
+  pub all_defined_lem : all_defined ps ≡ true
+  pub once_named_lem : once_named ps ≡ true
+  pub one_pattern_lem : one_pattern ps ≡ true
   pub fitting : fits ps (compile ps) ≡ true
 
 -- The text is short enough, and reads as these productions.
@@ -26,7 +26,7 @@ pub record Taken (text : List ℕ) (room : ℕ) (g : Grammar) : Type 0 where
   pub is_read : Read text productions
   pub keeps : Keeps productions
   pub is : compile productions ≡ g
-  pub image-fits : length (encode g) ≤ room
+  pub image_fits : length (encode g) ≤ room
 
 -- ## Why a text is refused, by the number of the refusal: the first rule that is not kept
 
@@ -37,20 +37,20 @@ pub data Unreadable (text : List ℕ) : Type 0 where
 
 -- 21
 abbrev pub Undefined : List ℕ → Type 0
-Undefined text = (ps : List Production) × Read text ps × (allDefined ps ≡ false)
+Undefined text = (ps : List Production) × Read text ps × (all_defined ps ≡ false)
 
 -- 22
 abbrev pub NamedTwice : List ℕ → Type 0
-NamedTwice text = (ps : List Production) × Read text ps × (allDefined ps ≡ true) × (onceNamed ps ≡ false)
+NamedTwice text = (ps : List Production) × Read text ps × (all_defined ps ≡ true) × (once_named ps ≡ false)
 
 -- 23
 abbrev pub TwoPatterns : List ℕ → Type 0
-TwoPatterns text = (ps : List Production) × Read text ps × (allDefined ps ≡ true) × (onceNamed ps ≡ true) × (onePattern ps ≡ false)
+TwoPatterns text = (ps : List Production) × Read text ps × (all_defined ps ≡ true) × (once_named ps ≡ true) × (one_pattern ps ≡ false)
 
 -- 24
 abbrev pub PastLimit : List ℕ → Type 0
 PastLimit text =
-    (ps : List Production) × Read text ps × (allDefined ps ≡ true) × (onceNamed ps ≡ true) × (onePattern ps ≡ true) × (fits ps (compile ps) ≡ false)
+    (ps : List Production) × Read text ps × (all_defined ps ≡ true) × (once_named ps ≡ true) × (one_pattern ps ≡ true) × (fits ps (compile ps) ≡ false)
 
 -- 25
 abbrev pub NoRoom : List ℕ → ℕ → Type 0
@@ -58,9 +58,9 @@ NoRoom text room = (ps : List Production) × Read text ps × Keeps ps × (room <
 
 -- The number that is due.
 pub data Due (text : List ℕ) (room : ℕ) : ℕ → Type 0 where
-  due-20 : Unreadable text → Due text room 20
-  due-21 : Undefined text → Due text room 21
-  due-22 : NamedTwice text → Due text room 22
-  due-23 : TwoPatterns text → Due text room 23
-  due-24 : PastLimit text → Due text room 24
-  due-25 : NoRoom text room → Due text room 25
+  due_20 : Unreadable text → Due text room 20
+  due_21 : Undefined text → Due text room 21
+  due_22 : NamedTwice text → Due text room 22
+  due_23 : TwoPatterns text → Due text room 23
+  due_24 : PastLimit text → Due text room 24
+  due_25 : NoRoom text room → Due text room 25

@@ -3,7 +3,7 @@ use Rattle.std.specs.Prelude.{ℕ, zero, suc, ◌+◌, ◌*◌, Bool, true, fals
 use Prim.Native.Char.{code}
 use Rattle.std.proofs.Math.Option.{Option, some, none}
 use Rattle.format.specs.Reading.{pick}
-use Rattle.notation.specs.Bytes.{bytes, blank, letter, nameByte, hexDigit, escape, one_of}
+use Rattle.notation.specs.Bytes.{bytes, blank, letter, name_byte, hex_digit, escape, one_of}
 use Rattle.notation.specs.Tree.{Name, Part, Query, match, is, isa, exists, Leaf, any, quoted, class, call, query, if, Prefix, and, not, Suffix, option, star, plus, Opener, def, block, local, on}
 use Rattle.notation.specs.Token.{Token, head, leaf, opens, closes, left, right, slash, before, after, bad, Lexeme, bare}
 
@@ -27,11 +27,11 @@ unfoldable pub ◌∷ᵖ◌ : {A : Type 0} → A → Piece (List A) → Piece (L
 
 -- What the front byte begins, the next one being looked at.
 pub data Front : Type 0 where
-  white line-comment block-comment solid : Front
+  white line_comment block_comment solid : Front
 
 unfoldable pub second : List ℕ → Front
 second [] = solid
-second (c ∷ s) = pick (eqb c (code "/")) line-comment (pick (eqb c (code "*")) block-comment solid)
+second (c ∷ s) = pick (eqb c (code "/")) line_comment (pick (eqb c (code "*")) block_comment solid)
 
 unfoldable pub front : ℕ → List ℕ → Front
 front b s = pick (blank b) white (pick (eqb b (code "/")) (second s) solid)
@@ -39,15 +39,15 @@ front b s = pick (blank b) white (pick (eqb b (code "/")) (second s) solid)
 -- Where in a gap one stands: outside a comment, in a line, before the `*` that opens a block, in a block, behind a `*` in a block. What is in a
 -- block knows the bytes from its `/*` on.
 pub data Inside : Type 0 where
-  outside in-line : Inside
+  outside in_line : Inside
   opening in_block starred : (comment : List ℕ) → Inside
 
 -- What a byte of a block comment leads to.
-unfoldable pub blockOn : (comment : List ℕ) → ℕ → Inside
-blockOn c b = pick (eqb b (code "*")) (starred c) (in_block c)
+unfoldable pub block_on : (comment : List ℕ) → ℕ → Inside
+block_on c b = pick (eqb b (code "*")) (starred c) (in_block c)
 
-unfoldable pub starOn : (comment : List ℕ) → ℕ → Inside
-starOn c b = pick (eqb b (code "/")) outside (blockOn c b)
+unfoldable pub star_on : (comment : List ℕ) → ℕ → Inside
+star_on c b = pick (eqb b (code "/")) outside (block_on c b)
 
 -- The bytes behind a gap; or the bytes from the `/*` on that nothing closes.
 pub data Skipped : Type 0 where
@@ -56,59 +56,59 @@ pub data Skipped : Type 0 where
 
 unfoldable pub skip : Inside → List ℕ → Skipped
 skip outside [] = past []
-skip in-line [] = past []
+skip in_line [] = past []
 skip (opening c) [] = unclosed c
 skip (in_block c) [] = unclosed c
 skip (starred c) [] = unclosed c
 skip outside (b ∷ s) =
     elim (front b s) [
       | white ↦ skip outside s
-      | line-comment ↦ skip in-line s
-      | block-comment ↦ skip (opening (b ∷ s)) s
+      | line_comment ↦ skip in_line s
+      | block_comment ↦ skip (opening (b ∷ s)) s
       | solid ↦ past (b ∷ s)
     ]
-skip in-line (b ∷ s) = elim (eqb b 10) [ true ↦ skip outside s | false ↦ skip in-line s ]
+skip in_line (b ∷ s) = elim (eqb b 10) [ true ↦ skip outside s | false ↦ skip in_line s ]
 skip (opening c) (b ∷ s) = skip (in_block c) s
-skip (in_block c) (b ∷ s) = skip (blockOn c b) s
-skip (starred c) (b ∷ s) = skip (starOn c b) s
+skip (in_block c) (b ∷ s) = skip (block_on c b) s
+skip (starred c) (b ∷ s) = skip (star_on c b) s
 
 abbrev pub gap : List ℕ → Skipped
 gap = skip outside
 
 -- ## Names
 
-unfoldable pub nameFront : List ℕ → List ℕ
-nameFront [] = []
-nameFront (b ∷ s) = elim (nameByte b) [ true ↦ b ∷ nameFront s | false ↦ [] ]
+unfoldable pub name_front : List ℕ → List ℕ
+name_front [] = []
+name_front (b ∷ s) = elim (name_byte b) [ true ↦ b ∷ name_front s | false ↦ [] ]
 
-unfoldable pub nameBehind : List ℕ → List ℕ
-nameBehind [] = []
-nameBehind (b ∷ s) = elim (nameByte b) [ true ↦ nameBehind s | false ↦ b ∷ s ]
+unfoldable pub name_behind : List ℕ → List ℕ
+name_behind [] = []
+name_behind (b ∷ s) = elim (name_byte b) [ true ↦ name_behind s | false ↦ b ∷ s ]
 
 -- A gap and then a name; a gap and then this byte; a gap and then perhaps a `!`, false if it stands there.
-unfoldable pub nameHere : Skipped → Piece Name
-nameHere (unclosed c) = no
-nameHere (past []) = no
-nameHere (past (b ∷ s)) = pick (letter b) (piece (nameFront (b ∷ s)) (nameBehind (b ∷ s))) no
+unfoldable pub name_here : Skipped → Piece Name
+name_here (unclosed c) = no
+name_here (past []) = no
+name_here (past (b ∷ s)) = pick (letter b) (piece (name_front (b ∷ s)) (name_behind (b ∷ s))) no
 
 abbrev pub name : List ℕ → Piece Name
-name s = nameHere (gap s)
+name s = name_here (gap s)
 
-unfoldable pub signHere : ℕ → Skipped → Piece (Unit {0})
-signHere c (unclosed k) = no
-signHere c (past []) = no
-signHere c (past (b ∷ s)) = pick (eqb b c) (piece tt s) no
+unfoldable pub sign_here : ℕ → Skipped → Piece (Unit {0})
+sign_here c (unclosed k) = no
+sign_here c (past []) = no
+sign_here c (past (b ∷ s)) = pick (eqb b c) (piece tt s) no
 
 abbrev pub sign : ℕ → List ℕ → Piece (Unit {0})
-sign c s = signHere c (gap s)
+sign c s = sign_here c (gap s)
 
-unfoldable pub truthHere : Skipped → Piece Bool
-truthHere (unclosed c) = no
-truthHere (past []) = piece true []
-truthHere (past (b ∷ s)) = pick (eqb b (code "!")) (piece false s) (piece true (b ∷ s))
+unfoldable pub truth_here : Skipped → Piece Bool
+truth_here (unclosed c) = no
+truth_here (past []) = piece true []
+truth_here (past (b ∷ s)) = pick (eqb b (code "!")) (piece false s) (piece true (b ∷ s))
 
 abbrev pub truth : List ℕ → Piece Bool
-truth s = truthHere (gap s)
+truth s = truth_here (gap s)
 
 -- ## A byte in quoted text or in a class: itself, `\` and one of a few, or `\x` and two hex digits
 
@@ -136,20 +136,20 @@ simple none = wrong
 unfoldable pub feed : Stage → ℕ → Fed
 feed fresh b = pick (eqb b (code "\\")) (goes escaped) (pick (one_of "\n\r" b) wrong (gives b))
 feed escaped b = pick (eqb b (code "x")) (goes hex) (simple (escape b))
-feed hex b = high (hexDigit b)
-feed (hex2 d) b = low d (hexDigit b)
+feed hex b = high (hex_digit b)
+feed (hex2 d) b = low d (hex_digit b)
 
 -- Quoted text behind its mark, up to the same mark.
-unfoldable pub atMark : ℕ → Stage → ℕ → Bool
-atMark mark fresh b = eqb b mark
-atMark mark escaped b = false
-atMark mark hex b = false
-atMark mark (hex2 d) b = false
+unfoldable pub at_mark : ℕ → Stage → ℕ → Bool
+at_mark mark fresh b = eqb b mark
+at_mark mark escaped b = false
+at_mark mark hex b = false
+at_mark mark (hex2 d) b = false
 
 unfoldable pub quote : ℕ → Stage → List ℕ → Piece (List ℕ)
 quote mark g [] = no
 quote mark g (b ∷ s) =
-    elim (atMark mark g b) [
+    elim (at_mark mark g b) [
       | true ↦ piece [] s
       | false ↦ elim (feed g b) [ goes h ↦ quote mark h s | gives c ↦ c ∷ᵖ quote mark fresh s | wrong ↦ no ]
     ]
@@ -179,12 +179,12 @@ ranged lo (gives hi) = pick (leb lo hi) (turns (range lo hi ∷ []) begin fresh)
 ranged lo wrong = fails
 
 unfoldable pub turn : Place → Stage → ℕ → Turn
-turn begin g b = pick (atMark (code "]") g b) (ends []) (begun (feed g b) [])
+turn begin g b = pick (at_mark (code "]") g b) (ends []) (begun (feed g b) [])
 turn (behind lo) g b =
     pick (eqb b (code "]")) (ends (range lo lo ∷ []))
     (pick (eqb b (code "-")) (turns [] (dashed lo) fresh) (begun (feed fresh b) (range lo lo ∷ [])))
 turn (dashed lo) g b =
-    pick (atMark (code "]") g b) (ends (range lo lo ∷ range (code "-") (code "-") ∷ [])) (ranged lo (feed g b))
+    pick (at_mark (code "]") g b) (ends (range lo lo ∷ range (code "-") (code "-") ∷ [])) (ranged lo (feed g b))
 
 unfoldable pub ◌++ᵖ◌ : List Part → Piece (List Part) → Piece (List Part)
 ◌++ᵖ◌ [] r = r
@@ -225,10 +225,10 @@ operator ons s = truth s then λ w s. name s then λ c s. piece (opens (on c w))
 operator unknown s = no
 
 -- A name is a production's if a `=` follows. `r` is what comes right behind the name.
-unfoldable pub namedHere : Name → (r : List ℕ) → Skipped → Piece Token
-namedHere n r (unclosed c) = piece (leaf (call n)) r
-namedHere n r (past []) = piece (leaf (call n)) r
-namedHere n r (past (b ∷ s)) = pick (eqb b (code "=")) (piece (head n) s) (piece (leaf (call n)) r)
+unfoldable pub named_here : Name → (r : List ℕ) → Skipped → Piece Token
+named_here n r (unclosed c) = piece (leaf (call n)) r
+named_here n r (past []) = piece (leaf (call n)) r
+named_here n r (past (b ∷ s)) = pick (eqb b (code "=")) (piece (head n) s) (piece (leaf (call n)) r)
 
 unfoldable pub classed : Piece (List Part) → Piece Token
 classed no = no
@@ -236,17 +236,17 @@ classed (piece [] s) = no
 classed (piece (p ∷ ps) s) = piece (leaf (class p ps)) s
 
 -- A `^` right behind the `[` is refused: elsewhere it would turn the class round.
-unfoldable pub classHere : List ℕ → Piece Token
-classHere [] = no
-classHere (b ∷ s) = pick (eqb b (code "^")) no (classed (parts begin fresh (b ∷ s)))
+unfoldable pub class_here : List ℕ → Piece Token
+class_here [] = no
+class_here (b ∷ s) = pick (eqb b (code "^")) no (classed (parts begin fresh (b ∷ s)))
 
 -- The token that a byte begins, `s` being what comes behind the byte.
 unfoldable pub token : ℕ → List ℕ → Piece Token
 token b s =
-    pick (letter b) (namedHere (nameFront (b ∷ s)) (nameBehind (b ∷ s)) (gap (nameBehind (b ∷ s))))
+    pick (letter b) (named_here (name_front (b ∷ s)) (name_behind (b ∷ s)) (gap (name_behind (b ∷ s))))
     (pick (eqb b (code ".")) (piece (leaf any) s)
     (pick (one_of "'\"" b) (quote b fresh s then λ x s. piece (leaf (quoted x)) s)
-    (pick (eqb b (code "[")) (classHere s)
+    (pick (eqb b (code "[")) (class_here s)
     (pick (eqb b (code "<")) (name s then λ n s. operator (word n) s)
     (pick (eqb b (code ">")) (piece closes s)
     (pick (eqb b (code "(")) (piece left s)

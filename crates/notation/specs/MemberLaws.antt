@@ -8,7 +8,7 @@ use Rattle.notation.specs.LexicalText.{no_way}
 use Rattle.notation.specs.LexicalToken.{same_true}
 use Rattle.notation.specs.Naming.{member, all}
 use Rattle.notation.specs.SymbolsLaws.{same_refl}
-use Rattle.notation.specs.CompileLaws.{member-here, member-later}
+use Rattle.notation.specs.CompileLaws.{member-here, member_later}
 
 abbrev pub either : Bool → Bool → Bool
 either a b = pick a true b
@@ -19,15 +19,15 @@ same_truth true b f g = sym (f refl)
 same_truth false true f g = g refl
 same_truth false false f g = refl
 
-either-assoc : (a b c : Bool) → either a (either b c) ≡ either (either a b) c
-either-assoc true b c = refl
-either-assoc false b c = refl
+either_assoc : (a b c : Bool) → either a (either b c) ≡ either (either a b) c
+either_assoc true b c = refl
+either_assoc false b c = refl
 
 pub member-append : (n : Name) (xs ys : List Name) → member n (xs ++ ys) ≡ either (member n xs) (member n ys)
 unfolding member
 member-append n [] ys = refl
 member-append n (x ∷ xs) ys =
-    ap (λ b. either (same n x) b) (member-append n xs ys) ∙ either-assoc (same n x) (member n xs) (member n ys)
+    ap (λ b. either (same n x) b) (member-append n xs ys) ∙ either_assoc (same n x) (member n xs) (member n ys)
 
 -- What holds of all members holds of each, and conversely.
 pub all_of : (f : Name → Bool) (n : Name) (xs : List Name) → all f xs ≡ true → member n xs ≡ true → f n ≡ true
@@ -43,14 +43,14 @@ all_of f n (x ∷ xs) e m = go (f x) (same n x) refl refl (λ d k. all_of f n xs
 pub all_from : (f : Name → Bool) (xs : List Name) → ((n : Name) → member n xs ≡ true → f n ≡ true) → all f xs ≡ true
 unfolding all
 all_from f [] h = refl
-all_from f (x ∷ xs) h = rw (h x (member-here x xs)) (all_from f xs (λ n m. h n (member-later n x xs m)))
+all_from f (x ∷ xs) h = rw (h x (member-here x xs)) (all_from f xs (λ n m. h n (member_later n x xs m)))
 
 -- So it goes by the members alone.
 abbrev pub SameMembers : List Name → List Name → Type 0
 SameMembers xs ys = (n : Name) → member n xs ≡ member n ys
 
-pub all-members : (f : Name → Bool) (xs ys : List Name) → SameMembers xs ys → all f xs ≡ all f ys
-all-members f xs ys h =
+pub all_members : (f : Name → Bool) (xs ys : List Name) → SameMembers xs ys → all f xs ≡ all f ys
+all_members f xs ys h =
     same_truth (all f xs) (all f ys) (λ e. all_from f ys (λ n m. all_of f n xs e (h n ∙ m)))
     (λ e. all_from f xs (λ n m. all_of f n ys e (sym (h n) ∙ m)))
 
@@ -76,10 +76,10 @@ all_map f g [] = refl
 all_map f g (x ∷ xs) = ap (λ b. pick (f (g x)) b false) (all_map f g xs)
 
 -- What holds of all holds at every place, and conversely.
-pub all-at : {A : Type 0} (f : A → Bool) (z : A) (xs : List A) → all f xs ≡ true → (i : ℕ) → i < length xs → f (get_or xs i z) ≡ true
+pub all_at : {A : Type 0} (f : A → Bool) (z : A) (xs : List A) → all f xs ≡ true → (i : ℕ) → i < length xs → f (get_or xs i z) ≡ true
 unfolding all
-all-at f z [] e i h = absurd (omega arith)
-all-at f z (x ∷ xs) e i h = go (f x) refl i h (λ d j l. all-at f z xs d j l)
+all_at f z [] e i h = absurd (omega arith)
+all_at f z (x ∷ xs) e i h = go (f x) refl i h (λ d j l. all_at f z xs d j l)
   where
     go : (b : Bool) → f x ≡ b → (i : ℕ) → i < length (x ∷ xs) → (all f xs ≡ true → (j : ℕ) → j < length xs → f (get_or xs j z) ≡ true)
         → f (get_or (x ∷ xs) i z) ≡ true
@@ -92,6 +92,6 @@ unfolding all
 at_all f z [] h = refl
 at_all f z (x ∷ xs) h = rw (h 0 (omega arith)) (at_all f z xs (λ i l. h (suc i) (omega arith)))
 
-pub same-sym : (x y : Name) → same x y ≡ same y x
-same-sym x y =
+pub same_sym : (x y : Name) → same x y ≡ same y x
+same_sym x y =
     same_truth (same x y) (same y x) (λ e. rw (same_true x y e) (same_refl y)) (λ e. rw (same_true y x e) (same_refl x))

@@ -9,9 +9,9 @@ use Rattle.notation.specs.Lexer.{same}
 use Rattle.notation.specs.LexicalText.{no_way}
 use Rattle.notation.specs.LexicalToken.{same_true}
 use Rattle.notation.specs.Naming.{member, tables, conditions}
-use Rattle.notation.specs.Compile.{order, lower, equal, place, sorted, entry, patternsAll, compile}
-use Rattle.notation.specs.CompileLaws.{member-sorted, tableNumber, conditionNumber}
-use Rattle.notation.specs.OrderLaws.{order_same, lower-lower, Below, Ascending, sorted-ascending}
+use Rattle.notation.specs.Compile.{order, lower, equal, place, sorted, entry, patterns_all, compile}
+use Rattle.notation.specs.CompileLaws.{member-sorted, table_number, condition_number}
+use Rattle.notation.specs.OrderLaws.{order_same, lower_lower, Below, Ascending, sorted_ascending}
 
 -- ## Names of a list
 
@@ -38,11 +38,11 @@ below_each n t (k ∷ ks) b m = go (same t k) refl (λ h. below_each n t ks b.1 
     go false q r = r (rw q at m)
 
 -- In a list that goes up the lower name has the lower number.
-pub lower-first :
+pub lower_first :
     (t u : Name) (ns : List Name) → Ascending ns → member t ns ≡ true → member u ns ≡ true → order t u ≡ lower → place t ns < place u ns
 unfolding place member
-lower-first t u [] a m k o = no_way (cc)
-lower-first t u (n ∷ ns) a m k o = go (same t n) (same u n) refl refl (λ i j. lower-first t u ns a.1 i j o)
+lower_first t u [] a m k o = no_way (cc)
+lower_first t u (n ∷ ns) a m k o = go (same t n) (same u n) refl refl (λ i j. lower_first t u ns a.1 i j o)
   where
     go : (b c : Bool) → same t n ≡ b → same u n ≡ c → (member t ns ≡ true → member u ns ≡ true → place t ns < place u ns)
         → place t (n ∷ ns) < place u (n ∷ ns)
@@ -51,7 +51,7 @@ lower-first t u (n ∷ ns) a m k o = go (same t n) (same u n) refl refl (λ i j.
     go true false p q r = rw (p, q) (omega arith)
     go false true p q r =
         let later : order n t ≡ lower = below_each n t ns a.0 (rw p at m) in
-        let z : equal ≡ lower = sym (order_same t) ∙ lower-lower t n t (ap (order t) (sym (same_true u n q)) ∙ o) later in
+        let z : equal ≡ lower = sym (order_same t) ∙ lower_lower t n t (ap (order t) (sym (same_true u n q)) ∙ o) later in
         no_way (cc)
     go false false p q r = let z = r (rw p at m) (rw q at k) in rw (p, q) (omega arith)
 
@@ -59,28 +59,28 @@ lower-first t u (n ∷ ns) a m k o = go (same t n) (same u n) refl refl (λ i j.
 
 module _ (ps : List Production) where
   -- Two tables have two numbers, and two conditions have; the lower name has the lower one.
-  pub tables-apart : (t u : Name) → member t (tables ps) ≡ true → member u (tables ps) ≡ true → tableNumber ps t ≡ tableNumber ps u → t ≡ u
-  tables-apart t u m k e = one_number t u (sorted (tables ps)) (member-sorted t (tables ps) m) (member-sorted u (tables ps) k) e
+  pub tables_apart : (t u : Name) → member t (tables ps) ≡ true → member u (tables ps) ≡ true → table_number ps t ≡ table_number ps u → t ≡ u
+  tables_apart t u m k e = one_number t u (sorted (tables ps)) (member-sorted t (tables ps) m) (member-sorted u (tables ps) k) e
 
-  pub tables-ordered :
-      (t u : Name) → member t (tables ps) ≡ true → member u (tables ps) ≡ true → order t u ≡ lower → tableNumber ps t < tableNumber ps u
-  tables-ordered t u m k o =
-      lower-first t u (sorted (tables ps)) (sorted-ascending (tables ps)) (member-sorted t (tables ps) m) (member-sorted u (tables ps) k) o
+  pub tables_ordered :
+      (t u : Name) → member t (tables ps) ≡ true → member u (tables ps) ≡ true → order t u ≡ lower → table_number ps t < table_number ps u
+  tables_ordered t u m k o =
+      lower_first t u (sorted (tables ps)) (sorted_ascending (tables ps)) (member-sorted t (tables ps) m) (member-sorted u (tables ps) k) o
 
-  pub conditions-apart :
-      (c d : Name) → member c (conditions ps) ≡ true → member d (conditions ps) ≡ true → conditionNumber ps c ≡ conditionNumber ps d → c ≡ d
-  conditions-apart c d m k e = one_number c d (sorted (conditions ps)) (member-sorted c (conditions ps) m) (member-sorted d (conditions ps) k) e
+  pub conditions_apart :
+      (c d : Name) → member c (conditions ps) ≡ true → member d (conditions ps) ≡ true → condition_number ps c ≡ condition_number ps d → c ≡ d
+  conditions_apart c d m k e = one_number c d (sorted (conditions ps)) (member-sorted c (conditions ps) m) (member-sorted d (conditions ps) k) e
 
-  pub conditions-ordered :
-      (c d : Name) → member c (conditions ps) ≡ true → member d (conditions ps) ≡ true → order c d ≡ lower → conditionNumber ps c < conditionNumber ps d
-  conditions-ordered c d m k o =
-      lower-first c d (sorted (conditions ps)) (sorted-ascending (conditions ps)) (member-sorted c (conditions ps) m) (member-sorted d (conditions ps) k) o
+  pub conditions_ordered :
+      (c d : Name) → member c (conditions ps) ≡ true → member d (conditions ps) ≡ true → order c d ≡ lower → condition_number ps c < condition_number ps d
+  conditions_ordered c d m k o =
+      lower_first c d (sorted (conditions ps)) (sorted_ascending (conditions ps)) (member-sorted c (conditions ps) m) (member-sorted d (conditions ps) k) o
 
-  -- As many tables and conditions as there are names: `sorted` has each once (`sorted-distinct`, `sorted-member`).
-  pub tables-counted : G.tables (compile ps) ≡ length (sorted (tables ps))
+  -- As many tables and conditions as there are names: `sorted` has each once (`sorted_distinct`, `sorted_member`).
+  pub tables_counted : G.tables (compile ps) ≡ length (sorted (tables ps))
   unfolding compile
-  tables-counted = length-map (sorted (tables ps)) (λ t. entry t (patternsAll 0 ps))
+  tables_counted = length-map (sorted (tables ps)) (λ t. entry t (patterns_all 0 ps))
 
-  pub conditions-counted : (compile ps).conditions ≡ length (sorted (conditions ps))
+  pub conditions_counted : (compile ps).conditions ≡ length (sorted (conditions ps))
   unfolding compile
-  conditions-counted = refl
+  conditions_counted = refl

@@ -7,8 +7,8 @@ use Rattle.notation.specs.Naming.{Definition, alike}
 use Rattle.notation.specs.Compile.{place}
 
 -- What stands for a definition where there is none.
-abbrev pub noDefinition : Definition
-noDefinition = record { table = []; pattern = leaf any }
+abbrev pub no_definition : Definition
+no_definition = record { table = []; pattern = leaf any }
 
 -- The place of a table's first definition.
 abbrev pub first_at : List Definition → Name → ℕ
@@ -16,7 +16,7 @@ first_at ds t = place t (map (λ d. d.table) ds)
 
 -- A definition is alike to the first of its table.
 abbrev pub matches : List Definition → Definition → Bool
-matches ds d = alike (get_or ds (first_at ds d.table) noDefinition).pattern d.pattern
+matches ds d = alike (get_or ds (first_at ds d.table) no_definition).pattern d.pattern
 
 -- The place of the first that fails a test, counted from i.
 unfoldable pub failing : {A : Type 0} → (A → Bool) → List A → (i : ℕ) → Option ℕ

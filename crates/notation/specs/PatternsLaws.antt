@@ -10,10 +10,10 @@ use Rattle.notation.specs.Lexer.{same}
 use Rattle.notation.specs.LexicalText.{no_way}
 use Rattle.notation.specs.LexicalToken.{same_true}
 use Rattle.notation.specs.Stream.{Symbol, leaves, front, back, joins, post, symbols}
-use Rattle.notation.specs.Naming.{perOperator, definitionIn, definitions, tables, member, distinct}
-use Rattle.notation.specs.Compile.{sorted, place, Entry, entry, leafCount, prefixCount, suffixCount, count, root, defined, patternsIn, patternsAll, compile}
-use Rattle.notation.specs.MemberLaws.{same-sym}
-use Rattle.notation.specs.Patterns.{Known, none_yet, begun, ends_at, isNew, node_of, put, brings, note, knownBehind, nothingKnown}
+use Rattle.notation.specs.Naming.{per_operator, definition_in, definitions, tables, member, distinct}
+use Rattle.notation.specs.Compile.{sorted, place, Entry, entry, leaf_count, prefix_count, suffix_count, count, root, defined, patterns_in, patterns_all, compile}
+use Rattle.notation.specs.MemberLaws.{same_sym}
+use Rattle.notation.specs.Patterns.{Known, none_yet, begun, ends_at, is_new, node_of, put, brings, note, known_behind, nothing_known}
 
 -- ## What entries add
 
@@ -35,92 +35,92 @@ or_assoc none_yet v w = refl
 or_assoc begun v w = refl
 or_assoc (ends_at n) v w = refl
 
-or_new : (v w : Known) → isNew v ≡ true → or_else v w ≡ w
+or_new : (v w : Known) → is_new v ≡ true → or_else v w ≡ w
 or_new none_yet w e = refl
 or_new begun w e = no_way (cc)
 or_new (ends_at n) w e = no_way (cc)
 
-or-old : (v w x : Known) → isNew v ≡ false → or_else v w ≡ or_else v x
-or-old none_yet w x e = no_way (cc)
-or-old begun w x e = refl
-or-old (ends_at n) w x e = refl
+or_old : (v w x : Known) → is_new v ≡ false → or_else v w ≡ or_else v x
+or_old none_yet w x e = no_way (cc)
+or_old begun w x e = refl
+or_old (ends_at n) w x e = refl
 
-or-none : (v : Known) → or_else v none_yet ≡ v
-or-none none_yet = refl
-or-none begun = refl
-or-none (ends_at n) = refl
+or_none : (v : Known) → or_else v none_yet ≡ v
+or_none none_yet = refl
+or_none begun = refl
+or_none (ends_at n) = refl
 
-noted-none : (f : Name → Known) → noted [] f ≡ f
-noted-none f = fun_ext (λ t. or-none (f t))
+noted_none : (f : Name → Known) → noted [] f ≡ f
+noted_none f = fun_ext (λ t. or_none (f t))
 
-lookup-append : (t : Name) (es fs : List Entry) → lookup t (es ++ fs) ≡ or_else (lookup t es) (lookup t fs)
-lookup-append t [] fs = refl
-lookup-append t (e ∷ es) fs = go (same t e.name) refl (lookup-append t es fs)
+lookup_append : (t : Name) (es fs : List Entry) → lookup t (es ++ fs) ≡ or_else (lookup t es) (lookup t fs)
+lookup_append t [] fs = refl
+lookup_append t (e ∷ es) fs = go (same t e.name) refl (lookup_append t es fs)
   where
     go : (b : Bool) → same t e.name ≡ b → lookup t (es ++ fs) ≡ or_else (lookup t es) (lookup t fs)
         → lookup t (e ∷ (es ++ fs)) ≡ or_else (lookup t (e ∷ es)) (lookup t fs)
     go true q i = rw q
     go false q i = rw q i
 
-noted-append : (es fs : List Entry) (f : Name → Known) → noted fs (noted es f) ≡ noted (es ++ fs) f
-noted-append es fs f =
-    fun_ext (λ t. or_assoc (f t) (lookup t es) (lookup t fs) ∙ ap (or_else (f t)) (sym (lookup-append t es fs)))
+noted_append : (es fs : List Entry) (f : Name → Known) → noted fs (noted es f) ≡ noted (es ++ fs) f
+noted_append es fs f =
+    fun_ext (λ t. or_assoc (f t) (lookup t es) (lookup t fs) ∙ ap (or_else (f t)) (sym (lookup_append t es fs)))
 
 -- An operator that begins and ends adds its own before those inside it.
-noted-within :
+noted_within :
     (o : Opener) (n : ℕ) (es : List Entry) (f : Name → Known)
     → note (brings o f) (ends_at n) (noted es (note (brings o f) begun f)) ≡ noted (defined o n ++ es) f
-noted-within (block t) n es f = refl
-noted-within (local t) n es f = refl
-noted-within (on c w) n es f = refl
-noted-within (def t) n es f = go (isNew (f t)) refl
+noted_within (block t) n es f = refl
+noted_within (local t) n es f = refl
+noted_within (on c w) n es f = refl
+noted_within (def t) n es f = go (is_new (f t)) refl
   where
     o : Opener
     o = def t
 
-    go : (b : Bool) → isNew (f t) ≡ b → note (brings o f) (ends_at n) (noted es (note (brings o f) begun f)) ≡ noted (defined o n ++ es) f
+    go : (b : Bool) → is_new (f t) ≡ b → note (brings o f) (ends_at n) (noted es (note (brings o f) begun f)) ≡ noted (defined o n ++ es) f
     go true q = rw q (fun_ext λ u. each u (same u t) refl)
       where
         each : (u : Name) (b : Bool) → same u t ≡ b
             → pick (same t u) (ends_at n) (or_else (pick (same t u) begun (f u)) (lookup u es)) ≡ or_else (f u) (pick (same u t) (ends_at n) (lookup u es))
-        each u true p = rw (same-sym t u, p, same_true u t p) (sym (or_new (f t) (ends_at n) q))
-        each u false p = rw (same-sym t u, p)
+        each u true p = rw (same_sym t u, p, same_true u t p) (sym (or_new (f t) (ends_at n) q))
+        each u false p = rw (same_sym t u, p)
     go false q = rw q (fun_ext λ u. each u (same u t) refl)
       where
         each : (u : Name) (b : Bool) → same u t ≡ b → or_else (f u) (lookup u es) ≡ or_else (f u) (pick (same u t) (ends_at n) (lookup u es))
-        each u true p = or-old (f u) (lookup u es) (pick (same u t) (ends_at n) (lookup u es)) (rw (same_true u t p) q)
+        each u true p = or_old (f u) (lookup u es) (pick (same u t) (ends_at n) (lookup u es)) (rw (same_true u t p) q)
         each u false p = rw p
 
 -- ## An expression's symbols add its patterns
 
-known-post :
+known_post :
     (a : Tree) (ss : List Symbol) (k : ℕ) (ms : List (Option Name)) (f : Name → Known)
-    → knownBehind (post a ++ ss) k ms f ≡ knownBehind ss (k + count a) ms (noted (patternsIn k a) f)
-unfolding knownBehind post count patternsIn
-known-post (leaf l) ss k ms f = ap (knownBehind ss (k + leafCount l) ms) (sym (noted-none f))
-known-post (prefix p a) ss k ms f =
-    let e : k + (count a + prefixCount p) ≡ k + count a + prefixCount p = omega arith in
-    rw (append_assoc (post a) (front p ∷ []) ss, e) (known-post a (front p ∷ ss) k ms f)
-known-post (suffix s a) ss k ms f =
-    let e : k + (count a + suffixCount s) ≡ k + count a + suffixCount s = omega arith in
-    rw (append_assoc (post a) (back s ∷ []) ss, e) (known-post a (back s ∷ ss) k ms f)
-known-post (binary b x y) ss k ms f =
+    → known_behind (post a ++ ss) k ms f ≡ known_behind ss (k + count a) ms (noted (patterns_in k a) f)
+unfolding known_behind post count patterns_in
+known_post (leaf l) ss k ms f = ap (known_behind ss (k + leaf_count l) ms) (sym (noted_none f))
+known_post (prefix p a) ss k ms f =
+    let e : k + (count a + prefix_count p) ≡ k + count a + prefix_count p = omega arith in
+    rw (append_assoc (post a) (front p ∷ []) ss, e) (known_post a (front p ∷ ss) k ms f)
+known_post (suffix s a) ss k ms f =
+    let e : k + (count a + suffix_count s) ≡ k + count a + suffix_count s = omega arith in
+    rw (append_assoc (post a) (back s ∷ []) ss, e) (known_post a (back s ∷ ss) k ms f)
+known_post (binary b x y) ss k ms f =
     let e : k + suc (count x + count y) ≡ suc (k + count x + count y) = omega arith in
     rw (append_assoc (post x) (post y ++ (joins b ∷ [])) ss, append_assoc (post y) (joins b ∷ []) ss, e)
-    (known-post x (post y ++ (joins b ∷ ss)) k ms f ∙ known-post y (joins b ∷ ss) (k + count x) ms (noted (patternsIn k x) f)
-    ∙ ap (knownBehind ss (suc (k + count x + count y)) ms) (noted-append (patternsIn k x) (patternsIn (k + count x) y) f))
-known-post (within o a) ss k ms f =
+    (known_post x (post y ++ (joins b ∷ ss)) k ms f ∙ known_post y (joins b ∷ ss) (k + count x) ms (noted (patterns_in k x) f)
+    ∙ ap (known_behind ss (suc (k + count x + count y)) ms) (noted_append (patterns_in k x) (patterns_in (k + count x) y) f))
+known_post (within o a) ss k ms f =
     let e : k + suc (count a) ≡ suc (k + count a) = omega arith in
     rw (append_assoc (post a) (leaves ∷ []) ss, e)
-    (known-post a (leaves ∷ ss) k (brings o f ∷ ms) (note (brings o f) begun f)
-    ∙ ap (knownBehind ss (suc (k + count a)) ms) (noted-within o (root k a) (patternsIn k a) f))
+    (known_post a (leaves ∷ ss) k (brings o f ∷ ms) (note (brings o f) begun f)
+    ∙ ap (known_behind ss (suc (k + count a)) ms) (noted_within o (root k a) (patterns_in k a) f))
 
-known-symbols : (ps : List Production) (k : ℕ) (ms : List (Option Name)) (f : Name → Known) → knownBehind (symbols ps) k ms f ≡ noted (patternsAll k ps) f
-unfolding knownBehind symbols patternsAll
-known-symbols [] k ms f = sym (noted-none f)
-known-symbols (p ∷ ps) k ms f =
-    known-post p.body (symbols ps) k [] f ∙ known-symbols ps (k + count p.body) [] (noted (patternsIn k p.body) f)
-    ∙ noted-append (patternsIn k p.body) (patternsAll (k + count p.body) ps) f
+known_symbols : (ps : List Production) (k : ℕ) (ms : List (Option Name)) (f : Name → Known) → known_behind (symbols ps) k ms f ≡ noted (patterns_all k ps) f
+unfolding known_behind symbols patterns_all
+known_symbols [] k ms f = sym (noted_none f)
+known_symbols (p ∷ ps) k ms f =
+    known_post p.body (symbols ps) k [] f ∙ known_symbols ps (k + count p.body) [] (noted (patterns_in k p.body) f)
+    ∙ noted_append (patterns_in k p.body) (patterns_all (k + count p.body) ps) f
 
 -- ## At the end
 
@@ -133,10 +133,10 @@ lookup_entry t (e ∷ es) = go (same t e.name) refl (lookup_entry t es)
     go true q i = rw q
     go false q i = rw q i
 
-lookup-found : (t : Name) (es : List Entry) → member t (map (λ e. e.name) es) ≡ true → lookup t es ≡ ends_at (entry t es)
+lookup_found : (t : Name) (es : List Entry) → member t (map (λ e. e.name) es) ≡ true → lookup t es ≡ ends_at (entry t es)
 unfolding entry member
-lookup-found t [] m = no_way (cc)
-lookup-found t (e ∷ es) m = go (same t e.name) refl (λ h. lookup-found t es h)
+lookup_found t [] m = no_way (cc)
+lookup_found t (e ∷ es) m = go (same t e.name) refl (λ h. lookup_found t es h)
   where
     go : (b : Bool) → same t e.name ≡ b → (member t (map (λ e. e.name) es) ≡ true → lookup t es ≡ ends_at (entry t es))
         → lookup t (e ∷ es) ≡ ends_at (entry t (e ∷ es))
@@ -144,64 +144,64 @@ lookup-found t (e ∷ es) m = go (same t e.name) refl (λ h. lookup-found t es h
     go false q i = rw q (i (rw q at m))
 
 -- The patterns are in one order with the definitions.
-named_in : (k : ℕ) (a : Tree) → map (λ e. e.name) (patternsIn k a) ≡ map (λ d. d.table) (perOperator definitionIn a)
-unfolding patternsIn
+named_in : (k : ℕ) (a : Tree) → map (λ e. e.name) (patterns_in k a) ≡ map (λ d. d.table) (per_operator definition_in a)
+unfolding patterns_in
 named_in k (leaf l) = refl
 named_in k (prefix p a) = named_in k a
 named_in k (suffix s a) = named_in k a
 named_in k (binary b x y) =
-    map-append (λ e. e.name) (patternsIn k x) (patternsIn (k + count x) y) ∙ ap₂ (λ l r. l ++ r) (named_in k x) (named_in (k + count x) y)
-    ∙ sym (map-append (λ d. d.table) (perOperator definitionIn x) (perOperator definitionIn y))
+    map-append (λ e. e.name) (patterns_in k x) (patterns_in (k + count x) y) ∙ ap₂ (λ l r. l ++ r) (named_in k x) (named_in (k + count x) y)
+    ∙ sym (map-append (λ d. d.table) (per_operator definition_in x) (per_operator definition_in y))
 named_in k (within (def t) a) = ap (λ l. t ∷ l) (named_in k a)
 named_in k (within (block t) a) = named_in k a
 named_in k (within (local t) a) = named_in k a
 named_in k (within (on c w) a) = named_in k a
 
-named-all : (k : ℕ) (ps : List Production) → map (λ e. e.name) (patternsAll k ps) ≡ map (λ d. d.table) (definitions ps)
-unfolding patternsAll
-named-all k [] = refl
-named-all k (p ∷ ps) =
-    map-append (λ e. e.name) (patternsIn k p.body) (patternsAll (k + count p.body) ps)
-    ∙ ap₂ (λ l r. l ++ r) (named_in k p.body) (named-all (k + count p.body) ps)
-    ∙ sym (map-append (λ d. d.table) (perOperator definitionIn p.body) (definitions ps))
+named_all : (k : ℕ) (ps : List Production) → map (λ e. e.name) (patterns_all k ps) ≡ map (λ d. d.table) (definitions ps)
+unfolding patterns_all
+named_all k [] = refl
+named_all k (p ∷ ps) =
+    map-append (λ e. e.name) (patterns_in k p.body) (patterns_all (k + count p.body) ps)
+    ∙ ap₂ (λ l r. l ++ r) (named_in k p.body) (named_all (k + count p.body) ps)
+    ∙ sym (map-append (λ d. d.table) (per_operator definition_in p.body) (definitions ps))
 
 -- A TABLE THAT HAS A DEF has the node of the first to begin.
-pub pattern-known :
+pub pattern_known :
     (ps : List Production) (t : Name) → member t (map (λ d. d.table) (definitions ps)) ≡ true
-    → knownBehind (symbols ps) 0 [] nothingKnown t ≡ ends_at (entry t (patternsAll 0 ps))
-pattern-known ps t m =
-    ap (λ f. f t) (known-symbols ps 0 [] nothingKnown) ∙ lookup-found t (patternsAll 0 ps) (rw (named-all 0 ps) m)
+    → known_behind (symbols ps) 0 [] nothing_known t ≡ ends_at (entry t (patterns_all 0 ps))
+pattern_known ps t m =
+    ap (λ f. f t) (known_symbols ps 0 [] nothing_known) ∙ lookup_found t (patterns_all 0 ps) (rw (named_all 0 ps) m)
 
-pub pattern-node : (ps : List Production) (t : Name) → node_of (knownBehind (symbols ps) 0 [] nothingKnown t) ≡ entry t (patternsAll 0 ps)
-pattern-node ps t = ap (λ f. node_of (f t)) (known-symbols ps 0 [] nothingKnown) ∙ lookup_entry t (patternsAll 0 ps)
+pub pattern_node : (ps : List Production) (t : Name) → node_of (known_behind (symbols ps) 0 [] nothing_known t) ≡ entry t (patterns_all 0 ps)
+pattern_node ps t = ap (λ f. node_of (f t)) (known_symbols ps 0 [] nothing_known) ∙ lookup_entry t (patterns_all 0 ps)
 
 -- THE PATTERNS that `compile` writes.
-pub patterns-are :
-    (ps : List Production) → (compile ps).patterns ≡ map (λ t. node_of (knownBehind (symbols ps) 0 [] nothingKnown t)) (sorted (tables ps))
+pub patterns_are :
+    (ps : List Production) → (compile ps).patterns ≡ map (λ t. node_of (known_behind (symbols ps) 0 [] nothing_known t)) (sorted (tables ps))
 unfolding compile
-patterns-are ps = ap (λ f. map f (sorted (tables ps))) (fun_ext (λ t. sym (pattern-node ps t)))
+patterns_are ps = ap (λ f. map f (sorted (tables ps))) (fun_ext (λ t. sym (pattern_node ps t)))
 
 -- ## Kept in a list, by the places of the tables
 
-put-none : (t : Name) (v : Known) (f : Name → Known) (ts : List Name) → member t ts ≡ false → map (put t v f) ts ≡ map f ts
+put_none : (t : Name) (v : Known) (f : Name → Known) (ts : List Name) → member t ts ≡ false → map (put t v f) ts ≡ map f ts
 unfolding member
-put-none t v f [] e = refl
-put-none t v f (u ∷ ts) e = go (same t u) refl (λ h. put-none t v f ts h)
+put_none t v f [] e = refl
+put_none t v f (u ∷ ts) e = go (same t u) refl (λ h. put_none t v f ts h)
   where
     go : (b : Bool) → same t u ≡ b → (member t ts ≡ false → map (put t v f) ts ≡ map f ts) → map (put t v f) (u ∷ ts) ≡ map f (u ∷ ts)
     go true q i = let z : true ≡ false = rw q at e in no_way (cc)
     go false q i = rw q (ap (λ l. f u ∷ l) (i (rw q at e)))
 
 -- What is put of a table is stored at its place.
-pub put-at : (t : Name) (v : Known) (f : Name → Known) (ts : List Name) → distinct ts ≡ true → map (put t v f) ts ≡ set (map f ts) (place t ts) v
+pub put_at : (t : Name) (v : Known) (f : Name → Known) (ts : List Name) → distinct ts ≡ true → map (put t v f) ts ≡ set (map f ts) (place t ts) v
 unfolding place distinct
-put-at t v f [] d = refl
-put-at t v f (u ∷ ts) d = go (same t u) (member u ts) refl refl (λ h. put-at t v f ts h)
+put_at t v f [] d = refl
+put_at t v f (u ∷ ts) d = go (same t u) (member u ts) refl refl (λ h. put_at t v f ts h)
   where
     go : (b c : Bool) → same t u ≡ b → member u ts ≡ c → (distinct ts ≡ true → map (put t v f) ts ≡ set (map f ts) (place t ts) v)
         → map (put t v f) (u ∷ ts) ≡ set (map f (u ∷ ts)) (place t (u ∷ ts)) v
     go b true q m i = let z : false ≡ true = rw m at d in no_way (cc)
-    go true false q m i = rw q (ap (λ l. v ∷ l) (put-none t v f ts (rw (same_true t u q) m)))
+    go true false q m i = rw q (ap (λ l. v ∷ l) (put_none t v f ts (rw (same_true t u q) m)))
     go false false q m i = rw q (ap (λ l. f u ∷ l) (i (rw m at d)))
 
 -- And is found there.

@@ -3,13 +3,13 @@ use Rattle.std.specs.Prelude.{ℕ, zero, suc, ◌+◌, ◌-◌, Bool, true, fals
 use Prim.Native.Char.{code}
 use Rattle.std.proofs.Math.Option.{Option, some, none}
 use Rattle.format.specs.Reading.{pick}
-use Rattle.format.specs.Written.{written, numbers, encodeNode, heading}
+use Rattle.format.specs.Written.{written, numbers, encode_node, heading}
 use Rattle.grammar.specs.Grammar.{Grammar}
 use Rattle.notation.specs.Tree.{Name, Production}
 use Rattle.notation.specs.Token.{Token, Lexeme}
 use Rattle.notation.specs.Lexer.{Piece, piece, no, ◌then◌, Skipped, past, unclosed, gap, name, truth}
 use Rattle.notation.specs.Naming.{all, member, Definition}
-use Rattle.notation.specs.Uses.{head_of, call_of, def_of, askOf, quotedIn, isShort}
+use Rattle.notation.specs.Uses.{head_of, call_of, def_of, ask_of, quoted_in, is_short}
 use Rattle.notation.specs.OnePattern.{fault}
 use Rattle.notation.specs.Compile.{insert, count}
 
@@ -18,20 +18,20 @@ abbrev pub place_of : (text rest : List ℕ) → ℕ
 place_of text rest = length text - length rest
 
 -- The bytes from a token's name on, the token being the front: behind `<`, a word and perhaps a `!`; else the name is the front itself.
-unfoldable pub behindTruth : Piece Bool → List ℕ
-behindTruth no = []
-behindTruth (piece w s) = elim (gap s) [ past r ↦ r | unclosed c ↦ [] ]
+unfoldable pub behind_truth : Piece Bool → List ℕ
+behind_truth no = []
+behind_truth (piece w s) = elim (gap s) [ past r ↦ r | unclosed c ↦ [] ]
 
-unfoldable pub nameIn : List ℕ → List ℕ
-nameIn [] = []
-nameIn (b ∷ s) = pick (eqb b (code "<")) (behindTruth (name s then λ w r. truth r)) (b ∷ s)
+unfoldable pub name_in : List ℕ → List ℕ
+name_in [] = []
+name_in (b ∷ s) = pick (eqb b (code "<")) (behind_truth (name s then λ w r. truth r)) (b ∷ s)
 
 -- Where a token begins, and where its name does.
-abbrev pub tokenPlace : List ℕ → Lexeme → ℕ
-tokenPlace text l = place_of text l.here
+abbrev pub token_place : List ℕ → Lexeme → ℕ
+token_place text l = place_of text l.here
 
 abbrev pub namePlace : List ℕ → Lexeme → ℕ
-namePlace text l = place_of text (nameIn l.here)
+namePlace text l = place_of text (name_in l.here)
 
 -- ## The first of its sort
 
@@ -41,18 +41,18 @@ firstWhere test [] = none
 firstWhere test (l ∷ ls) = pick (test l.token) (some l) (firstWhere test ls)
 
 -- The first token that names what a test, which knows the names before it, does not let pass. The names before it are in byte order, each once.
-unfoldable pub firstName : (Token → List Name) → (List Name → Name → Bool) → (before : List Name) → List Lexeme → Option Lexeme
-firstName names test before [] = none
-firstName names test before (l ∷ ls) =
+unfoldable pub first_name : (Token → List Name) → (List Name → Name → Bool) → (before : List Name) → List Lexeme → Option Lexeme
+first_name names test before [] = none
+first_name names test before (l ∷ ls) =
     elim (names l.token) [
-      | [] ↦ firstName names test before ls
-      | n ∷ more ↦ pick (test before n) (some l) (firstName names test (insert n before) ls)
+      | [] ↦ first_name names test before ls
+      | n ∷ more ↦ pick (test before n) (some l) (first_name names test (insert n before) ls)
     ]
 
 -- 21: a name that is called and is no production's, a table that is asked about and has no def.
 abbrev pub undefined : (heads defs : List Name) → Token → Bool
 undefined heads defs t =
-    pick (all (λ n. member n heads) (call_of t)) (pick (all (λ n. member n defs) (askOf t)) false true) true
+    pick (all (λ n. member n heads) (call_of t)) (pick (all (λ n. member n defs) (ask_of t)) false true) true
 
 -- 22: a name that an earlier production has.
 abbrev pub again : List Name → Name → Bool
@@ -63,7 +63,7 @@ abbrev pub ninth : List Name → Name → Bool
 ninth before n = ltb 8 (length (insert n before))
 
 abbrev pub long : Token → Bool
-long t = pick (all isShort (quotedIn t)) false true
+long t = pick (all is_short (quoted_in t)) false true
 
 -- 24: the production with which a size goes over its limit, the size being told by the number of nodes so far.
 unfoldable pub firstOver : (limit : ℕ) (size : ℕ → ℕ) (nodes : ℕ) → List Production → (heads : List Lexeme) → Option Lexeme
@@ -74,14 +74,14 @@ firstOver limit size nodes (p ∷ ps) (h ∷ heads) =
 
 -- The bytes of an image up to the end of so many nodes.
 unfoldable pub imageUpTo : Grammar → ℕ → ℕ
-imageUpTo g n = length (numbers (heading g)) + length (numbers g.patterns) + length (written encodeNode (take n g.nodes))
+imageUpTo g n = length (numbers (heading g)) + length (numbers g.patterns) + length (written encode_node (take n g.nodes))
 
 -- The heads, and the defs, among a text's lexemes.
 abbrev pub isHead : Token → Bool
 isHead t = elim (head_of t) [ [] ↦ false | n ∷ more ↦ true ]
 
-abbrev pub isDef : Token → Bool
-isDef t = elim (def_of t) [ [] ↦ false | n ∷ more ↦ true ]
+abbrev pub is_def : Token → Bool
+is_def t = elim (def_of t) [ [] ↦ false | n ∷ more ↦ true ]
 
 unfoldable pub only : (Token → Bool) → List Lexeme → List Lexeme
 only test [] = []
@@ -96,4 +96,4 @@ numbered (some (suc i)) (l ∷ ls) = numbered (some i) ls
 
 -- 23: the first def that is not alike to the first one of its table. Defs and definitions go pairwise.
 abbrev pub unlike : List Definition → List Lexeme → Option Lexeme
-unlike ds ls = numbered (fault ds) (only isDef ls)
+unlike ds ls = numbered (fault ds) (only is_def ls)

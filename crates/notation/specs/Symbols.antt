@@ -54,11 +54,11 @@ contents (front p) = []
 contents (back s) = []
 contents (joins b) = []
 
-abbrev pub sameSymbol : Symbol → Symbol → Bool
-sameSymbol s t = pick (eqb (kind s) (kind t)) (same (contents s) (contents t)) false
+abbrev pub same_symbol : Symbol → Symbol → Bool
+same_symbol s t = pick (eqb (kind s) (kind t)) (same (contents s) (contents t)) false
 
-unfoldable pub sameSymbols : List Symbol → List Symbol → Bool
-sameSymbols [] [] = true
-sameSymbols [] (t ∷ ts) = false
-sameSymbols (s ∷ ss) [] = false
-sameSymbols (s ∷ ss) (t ∷ ts) = pick (sameSymbol s t) (sameSymbols ss ts) false
+unfoldable pub same_symbols : List Symbol → List Symbol → Bool
+same_symbols [] [] = true
+same_symbols [] (t ∷ ts) = false
+same_symbols (s ∷ ss) [] = false
+same_symbols (s ∷ ss) (t ∷ ts) = pick (same_symbol s t) (same_symbols ss ts) false

@@ -6,11 +6,11 @@ use Rattle.format.specs.Reading.{pick}
 use Rattle.notation.specs.Tree.{Name, Part, Query, match, is, isa, exists, Leaf, any, quoted, class, call, query, if, Prefix, and, not, Suffix, option, star, plus, Binary, sequence, choice, Opener, def, block, local, on, Tree, Production}
 use Rattle.notation.specs.Stream.{Symbol, named, stands, enters, leaves, front, back, joins, post, ended, ◌▸▸◌}
 use Rattle.notation.specs.Reader.{grow}
-use Rattle.notation.specs.ReaderLaws.{grow-post}
+use Rattle.notation.specs.ReaderLaws.{grow_post}
 use Rattle.notation.specs.Lexer.{same}
 use Rattle.notation.specs.LexicalText.{no_way}
 use Rattle.notation.specs.LexicalToken.{same_true}
-use Rattle.notation.specs.Symbols.{ends, bit, kind, contents, sameSymbol, sameSymbols}
+use Rattle.notation.specs.Symbols.{ends, bit, kind, contents, same_symbol, same_symbols}
 
 -- ## A symbol is told by its kind and its contents
 
@@ -19,18 +19,18 @@ pairs [] = []
 pairs (a ∷ []) = []
 pairs (a ∷ b ∷ s) = record { lo = a; hi = b } ∷ pairs s
 
-pairs-ends : (ps : List Part) → pairs (ends ps) ≡ ps
+pairs_ends : (ps : List Part) → pairs (ends ps) ≡ ps
 unfolding pairs
-pairs-ends [] = refl
-pairs-ends (p ∷ ps) = ap (λ ps. p ∷ ps) (pairs-ends ps)
+pairs_ends [] = refl
+pairs_ends (p ∷ ps) = ap (λ ps. p ∷ ps) (pairs_ends ps)
 
 class_of : List Part → Leaf
 class_of [] = any
 class_of (p ∷ ps) = class p ps
 
-withTruth : (List ℕ → Bool → Symbol) → List ℕ → Symbol
-withTruth f [] = leaves
-withTruth f (b ∷ s) = f s (eqb b 1)
+with_truth_lem : (List ℕ → Bool → Symbol) → List ℕ → Symbol
+with_truth_lem f [] = leaves
+with_truth_lem f (b ∷ s) = f s (eqb b 1)
 
 symbol_of : ℕ → List ℕ → Symbol
 symbol_of k x =
@@ -43,22 +43,22 @@ symbol_of k x =
     (pick (eqb k 6) (stands (query is x))
     (pick (eqb k 7) (stands (query isa x))
     (pick (eqb k 8) (stands (query exists x))
-    (pick (eqb k 9) (withTruth (λ c w. stands (if c w)) x)
+    (pick (eqb k 9) (with_truth_lem (λ c w. stands (if c w)) x)
     (pick (eqb k 10) (enters (def x))
     (pick (eqb k 11) (enters (block x))
     (pick (eqb k 12) (enters (local x))
-    (pick (eqb k 13) (withTruth (λ c w. enters (on c w)) x)
+    (pick (eqb k 13) (with_truth_lem (λ c w. enters (on c w)) x)
     (pick (eqb k 14) leaves
     (pick (eqb k 15) (front and)
     (pick (eqb k 16) (front not)
     (pick (eqb k 17) (back option) (pick (eqb k 18) (back star) (pick (eqb k 19) (back plus) (pick (eqb k 20) (joins sequence) (joins choice)))))))))))))))))))))
 
 told : (s : Symbol) → symbol_of (kind s) (contents s) ≡ s
-unfolding symbol_of withTruth class_of pairs
+unfolding symbol_of with_truth_lem class_of pairs
 told (named n) = refl
 told (stands any) = refl
 told (stands (quoted s)) = refl
-told (stands (class p ps)) = ap (λ ps. stands (class p ps)) (pairs-ends ps)
+told (stands (class p ps)) = ap (λ ps. stands (class p ps)) (pairs_ends ps)
 told (stands (call n)) = refl
 told (stands (query match t)) = refl
 told (stands (query is t)) = refl
@@ -87,8 +87,8 @@ unfolding same
 same_refl [] = refl
 same_refl (x ∷ xs) = rw (eq-eqb x x refl) (same_refl xs)
 
-same-symbol : (s t : Symbol) → sameSymbol s t ≡ true → s ≡ t
-same-symbol s t e = go (eqb (kind s) (kind t)) refl
+same_symbol_lem : (s t : Symbol) → same_symbol s t ≡ true → s ≡ t
+same_symbol_lem s t e = go (eqb (kind s) (kind t)) refl
   where
     go : (b : Bool) → eqb (kind s) (kind t) ≡ b → s ≡ t
     go true k =
@@ -97,51 +97,51 @@ same-symbol s t e = go (eqb (kind s) (kind t)) refl
         sym (told s) ∙ ap (λ j. symbol_of j (contents s)) x ∙ ap (λ c. symbol_of (kind t) c) y ∙ told t
     go false k = let z : false ≡ true = rw k at e in no_way (cc)
 
-same-symbols : (ss ts : List Symbol) → sameSymbols ss ts ≡ true → ss ≡ ts
-unfolding sameSymbols
-same-symbols [] [] e = refl
-same-symbols [] (t ∷ ts) e = no_way (cc)
-same-symbols (s ∷ ss) [] e = no_way (cc)
-same-symbols (s ∷ ss) (t ∷ ts) e = go (sameSymbol s t) refl (λ h. same-symbols ss ts h)
+same_symbols_lem : (ss ts : List Symbol) → same_symbols ss ts ≡ true → ss ≡ ts
+unfolding same_symbols
+same_symbols_lem [] [] e = refl
+same_symbols_lem [] (t ∷ ts) e = no_way (cc)
+same_symbols_lem (s ∷ ss) [] e = no_way (cc)
+same_symbols_lem (s ∷ ss) (t ∷ ts) e = go (same_symbol s t) refl (λ h. same_symbols_lem ss ts h)
   where
-    go : (b : Bool) → sameSymbol s t ≡ b → (sameSymbols ss ts ≡ true → ss ≡ ts) → s ∷ ss ≡ t ∷ ts
-    go true k f = let x = same-symbol s t k in let y = f (rw k at e) in cc
+    go : (b : Bool) → same_symbol s t ≡ b → (same_symbols ss ts ≡ true → ss ≡ ts) → s ∷ ss ≡ t ∷ ts
+    go true k f = let x = same_symbol_lem s t k in let y = f (rw k at e) in cc
     go false k f = let z : false ≡ true = rw k at e in no_way (cc)
 
-symbols-refl : (ss : List Symbol) → sameSymbols ss ss ≡ true
-unfolding sameSymbols
-symbols-refl [] = refl
-symbols-refl (s ∷ ss) = rw (eq-eqb (kind s) (kind s) refl, same_refl (contents s)) (symbols-refl ss)
+symbols_refl : (ss : List Symbol) → same_symbols ss ss ≡ true
+unfolding same_symbols
+symbols_refl [] = refl
+symbols_refl (s ∷ ss) = rw (eq-eqb (kind s) (kind s) refl, same_refl (contents s)) (symbols_refl ss)
 
 body_of : List Production → Tree → Tree
 body_of [] a = a
 body_of (p ∷ ps) a = p.body
 
 -- An expression's symbols tell it.
-post-tells : (a b : Tree) → post a ≡ post b → a ≡ b
+post_tells : (a b : Tree) → post a ≡ post b → a ≡ b
 unfolding grow body_of
-post-tells a b e =
+post_tells a b e =
     ap (λ ps. body_of ps a)
-    (sym (grow-post a ended [] [] []) ∙ ap (λ ss. grow (ss ▸▸ ended) [] [] []) e ∙ grow-post b ended [] [] [])
+    (sym (grow_post a ended [] [] []) ∙ ap (λ ss. grow (ss ▸▸ ended) [] [] []) e ∙ grow_post b ended [] [] [])
 
 module _ (a b : Tree) where
-  pub same_by : sameSymbols (post a) (post b) ≡ true → a ≡ b
-  same_by e = post-tells a b (same-symbols (post a) (post b) e)
+  pub same_by : same_symbols (post a) (post b) ≡ true → a ≡ b
+  same_by e = post_tells a b (same_symbols_lem (post a) (post b) e)
 
-  pub other-by : sameSymbols (post a) (post b) ≡ false → a ≡ b → ⊥
-  other-by e q = let z : true ≡ false = sym (symbols-refl (post b)) ∙ (rw q at e) in no_way (cc)
+  pub other_by : same_symbols (post a) (post b) ≡ false → a ≡ b → ⊥
+  other_by e q = let z : true ≡ false = sym (symbols_refl (post b)) ∙ (rw q at e) in no_way (cc)
 
-  abbrev pub told-by : (t : Bool) → sameSymbols (post a) (post b) ≡ t → Dec (a ≡ b)
-  told-by true e = yes (same_by e)
-  told-by false e = no (other-by e)
+  abbrev pub told_by : (t : Bool) → same_symbols (post a) (post b) ≡ t → Dec (a ≡ b)
+  told_by true e = yes (same_by e)
+  told_by false e = no (other_by e)
 
   -- TWO TREES ARE THE SAME TREE OR NOT, by their symbols.
-  abbrev pub same-tree : Dec (a ≡ b)
-  same-tree = told-by (sameSymbols (post a) (post b)) refl
+  abbrev pub same_tree : Dec (a ≡ b)
+  same_tree = told_by (same_symbols (post a) (post b)) refl
 
-  pub by-symbols : ite same-tree true false ≡ sameSymbols (post a) (post b)
-  by-symbols = go (sameSymbols (post a) (post b)) refl
+  pub by_symbols : ite same_tree true false ≡ same_symbols (post a) (post b)
+  by_symbols = go (same_symbols (post a) (post b)) refl
     where
-      go : (t : Bool) (e : sameSymbols (post a) (post b) ≡ t) → ite (told-by t e) true false ≡ t
+      go : (t : Bool) (e : same_symbols (post a) (post b) ≡ t) → ite (told_by t e) true false ≡ t
       go true e = refl
       go false e = refl

@@ -3,15 +3,15 @@
 use Rattle.std.specs.Prelude.{ℕ, ◌≡◌, ◌↔◌, List, [], ◌∷◌, ◌++◌}
 use Rattle.notation.specs.Tree.{Tree, Production}
 use Rattle.notation.specs.Token.{Token, head, leaf, opens, closes, left, right, slash, before, after, bad, Lexeme, bare}
-use Rattle.notation.specs.Notation.{Level, Reads, alternatives, one-alternative, items, one-item, prefixed, no-prefix, suffixed, no-suffix, itself, brackets, operator, Productions, last, more}
+use Rattle.notation.specs.Notation.{Level, Reads, alternatives, one_alternative, items, one_item, prefixed, no_prefix, suffixed, no_suffix, itself, brackets, operator, Productions, last, more}
 use Rattle.notation.specs.Lexical
 use Rattle.notation.specs.Lexical.{Lexes}
 use Rattle.notation.specs.Unread.{LexesTo, stuck, unclosed}
 use Rattle.notation.specs.Unread as U
-use Rattle.notation.specs.UnreadLaws.{lexes-to, lexed-once, lexes-whole}
+use Rattle.notation.specs.UnreadLaws.{lexes_to, lexed_once, lexes_whole}
 use Rattle.notation.specs.Lexer.{lexemes, tokens}
 use Rattle.notation.specs.Reader.{Parsed, reads, parsed}
-use Rattle.notation.specs.ReaderLaws.{parsed-derived, exact as parsed-exact}
+use Rattle.notation.specs.ReaderLaws.{parsed_derived, exact as parsed_exact}
 use Rattle.notation.specs.Text.{ReadsAs}
 
 -- ## What is no token
@@ -43,11 +43,11 @@ later (before p) ts h = h
 later (after s) ts h = h
 
 -- Lexemes without it go to the text's end.
-goes-whole : {s : List ℕ} {ls : List Lexeme} → LexesTo s ls → (HasBad (bare ls) → ⊥) → Lexes s ls
-goes-whole (U.finish g) f = Lexical.finish g
-goes-whole (U.token {t = t} {ls = ls} g S L) f = Lexical.token g S (goes-whole L (λ h. f (later t (bare ls) h)))
-goes-whole (stuck g n) f = absurd (f tt)
-goes-whole (unclosed u) f = absurd (f tt)
+goes_whole : {s : List ℕ} {ls : List Lexeme} → LexesTo s ls → (HasBad (bare ls) → ⊥) → Lexes s ls
+goes_whole (U.finish g) f = Lexical.finish g
+goes_whole (U.token {t = t} {ls = ls} g S L) f = Lexical.token g S (goes_whole L (λ h. f (later t (bare ls) h)))
+goes_whole (stuck g n) f = absurd (f tt)
+goes_whole (unclosed u) f = absurd (f tt)
 
 -- The notation derives nothing from what is no token.
 data Either (A B : Type 0) : Type 0 where
@@ -58,60 +58,60 @@ carried : (x : Token) (xs ys : List Token) → Either (HasBad xs) (HasBad ys) �
 carried x xs ys (one_way h) = one_way (later x xs h)
 carried x xs ys (other_way h) = other_way h
 
-bad-in : (xs ys : List Token) → HasBad (xs ++ ys) → Either (HasBad xs) (HasBad ys)
-bad-in [] ys h = other_way h
-bad-in (bad ∷ xs) ys h = one_way tt
-bad-in (head n ∷ xs) ys h = carried (head n) xs ys (bad-in xs ys h)
-bad-in (leaf l ∷ xs) ys h = carried (leaf l) xs ys (bad-in xs ys h)
-bad-in (opens o ∷ xs) ys h = carried (opens o) xs ys (bad-in xs ys h)
-bad-in (closes ∷ xs) ys h = carried closes xs ys (bad-in xs ys h)
-bad-in (left ∷ xs) ys h = carried left xs ys (bad-in xs ys h)
-bad-in (right ∷ xs) ys h = carried right xs ys (bad-in xs ys h)
-bad-in (slash ∷ xs) ys h = carried slash xs ys (bad-in xs ys h)
-bad-in (before p ∷ xs) ys h = carried (before p) xs ys (bad-in xs ys h)
-bad-in (after s ∷ xs) ys h = carried (after s) xs ys (bad-in xs ys h)
+bad_in : (xs ys : List Token) → HasBad (xs ++ ys) → Either (HasBad xs) (HasBad ys)
+bad_in [] ys h = other_way h
+bad_in (bad ∷ xs) ys h = one_way tt
+bad_in (head n ∷ xs) ys h = carried (head n) xs ys (bad_in xs ys h)
+bad_in (leaf l ∷ xs) ys h = carried (leaf l) xs ys (bad_in xs ys h)
+bad_in (opens o ∷ xs) ys h = carried (opens o) xs ys (bad_in xs ys h)
+bad_in (closes ∷ xs) ys h = carried closes xs ys (bad_in xs ys h)
+bad_in (left ∷ xs) ys h = carried left xs ys (bad_in xs ys h)
+bad_in (right ∷ xs) ys h = carried right xs ys (bad_in xs ys h)
+bad_in (slash ∷ xs) ys h = carried slash xs ys (bad_in xs ys h)
+bad_in (before p ∷ xs) ys h = carried (before p) xs ys (bad_in xs ys h)
+bad_in (after s ∷ xs) ys h = carried (after s) xs ys (bad_in xs ys h)
 
 neither : (xs ys : List Token) → (HasBad xs → ⊥) → (HasBad ys → ⊥) → HasBad (xs ++ ys) → ⊥
-neither xs ys f g h = go (bad-in xs ys h)
+neither xs ys f g h = go (bad_in xs ys h)
   where
     go : Either (HasBad xs) (HasBad ys) → ⊥
     go (one_way h) = f h
     go (other_way h) = g h
 
 -- No token that is read is one.
-read-proper : {ℓ : Level} {ts : List Token} {a : Tree} → Reads ℓ ts a → HasBad ts → ⊥
-read-proper (alternatives {ts = ts} {us = us} D E) h = neither ts (slash ∷ us) (λ k. read-proper D k) (λ k. read-proper E k) h
-read-proper (one-alternative D) h = read-proper D h
-read-proper (items {ts = ts} {us = us} D E) h = neither ts us (λ k. read-proper D k) (λ k. read-proper E k) h
-read-proper (one-item D) h = read-proper D h
-read-proper (prefixed D) h = read-proper D h
-read-proper (no-prefix D) h = read-proper D h
-read-proper (suffixed {s = s} {ts = ts} D) h = neither ts (after s ∷ []) (λ k. read-proper D k) (λ k. k) h
-read-proper (no-suffix D) h = read-proper D h
-read-proper itself h = h
-read-proper (brackets {ts = ts} D) h = neither ts (right ∷ []) (λ k. read-proper D k) (λ k. k) h
-read-proper (operator {ts = ts} D) h = neither ts (closes ∷ []) (λ k. read-proper D k) (λ k. k) h
+read_proper : {ℓ : Level} {ts : List Token} {a : Tree} → Reads ℓ ts a → HasBad ts → ⊥
+read_proper (alternatives {ts = ts} {us = us} D E) h = neither ts (slash ∷ us) (λ k. read_proper D k) (λ k. read_proper E k) h
+read_proper (one_alternative D) h = read_proper D h
+read_proper (items {ts = ts} {us = us} D E) h = neither ts us (λ k. read_proper D k) (λ k. read_proper E k) h
+read_proper (one_item D) h = read_proper D h
+read_proper (prefixed D) h = read_proper D h
+read_proper (no_prefix D) h = read_proper D h
+read_proper (suffixed {s = s} {ts = ts} D) h = neither ts (after s ∷ []) (λ k. read_proper D k) (λ k. k) h
+read_proper (no_suffix D) h = read_proper D h
+read_proper itself h = h
+read_proper (brackets {ts = ts} D) h = neither ts (right ∷ []) (λ k. read_proper D k) (λ k. k) h
+read_proper (operator {ts = ts} D) h = neither ts (closes ∷ []) (λ k. read_proper D k) (λ k. k) h
 
 proper : {ts : List Token} {ps : List Production} → Productions ts ps → HasBad ts → ⊥
-proper (last D) h = read-proper D h
-proper (more {ts = ts} {us = us} D P) h = neither ts us (λ k. read-proper D k) (λ k. proper P k) h
+proper (last D) h = read_proper D h
+proper (more {ts = ts} {us = us} D P) h = neither ts us (λ k. read_proper D k) (λ k. proper P k) h
 
 -- ## The theorem
 
-pub lexes-once : {text : List ℕ} {ls : List Lexeme} → Lexes text ls → lexemes text ≡ ls
-lexes-once L = lexed-once (lexes-whole L)
+pub lexes_once : {text : List ℕ} {ls : List Lexeme} → Lexes text ls → lexemes text ≡ ls
+lexes_once L = lexed_once (lexes_whole L)
 
 pub taken : (text : List ℕ) (ps : List Production) → ReadsAs text ps → parsed (tokens text) ≡ reads ps
-taken text ps r = rw (lexes-once r.lexes) (parsed-derived r.derives)
+taken text ps r = rw (lexes_once r.lexes) (parsed_derived r.derives)
 
 pub derived : (text : List ℕ) (ps : List Production) → parsed (tokens text) ≡ reads ps → ReadsAs text ps
 derived text ps e =
-    let P = (parsed-exact (tokens text) ps).0 e in record { lexemes = lexemes text; lexes = goes-whole (lexes-to text) (proper P); derives = P }
+    let P = (parsed_exact (tokens text) ps).0 e in record { lexemes = lexemes text; lexes = goes_whole (lexes_to text) (proper P); derives = P }
 
 -- TAKEN EXACTLY IF DERIVED.
-pub reads-exactly : (text : List ℕ) (ps : List Production) → (parsed (tokens text) ≡ reads ps) ↔ ReadsAs text ps
-reads-exactly text ps = (derived text ps, taken text ps)
+pub reads_exactly : (text : List ℕ) (ps : List Production) → (parsed (tokens text) ≡ reads ps) ↔ ReadsAs text ps
+reads_exactly text ps = (derived text ps, taken text ps)
 
 -- ONE READING.
-pub one-reading : (text : List ℕ) (ps qs : List Production) → ReadsAs text ps → ReadsAs text qs → ps ≡ qs
-one-reading text ps qs r t = cc (taken text ps r, taken text qs t)
+pub one_reading : (text : List ℕ) (ps qs : List Production) → ReadsAs text ps → ReadsAs text qs → ps ≡ qs
+one_reading text ps qs r t = cc (taken text ps r, taken text qs t)

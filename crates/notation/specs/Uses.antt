@@ -3,7 +3,7 @@
 use Rattle.std.specs.Prelude.{ℕ, Bool, List, [], ◌∷◌, ◌++◌, leb, length}
 use Rattle.notation.specs.Tree.{Name, Leaf, any, quoted, class, call, query, if, Opener, def, block, local, on}
 use Rattle.notation.specs.Token.{Token, head, leaf, opens, closes, left, right, slash, before, after, bad}
-use Rattle.notation.specs.Naming.{calledBy, table_of, conditionOf}
+use Rattle.notation.specs.Naming.{called_by, table_of, condition_of}
 
 -- What a token says, by what a head, a leaf and an opener say. The others say nothing.
 abbrev pub says : {A : Type 0} → (Name → List A) → (Leaf → List A) → (Opener → List A) → Token → List A
@@ -22,23 +22,23 @@ abbrev pub nothing : {A B : Type 0} → A → List B
 nothing x = []
 
 -- The table that an opener defines, the one that it closes round, and its condition.
-abbrev pub definedBy : Opener → List Name
-definedBy (def t) = t ∷ []
-definedBy (block t) = []
-definedBy (local t) = []
-definedBy (on c w) = []
+abbrev pub defined_by : Opener → List Name
+defined_by (def t) = t ∷ []
+defined_by (block t) = []
+defined_by (local t) = []
+defined_by (on c w) = []
 
-abbrev pub askedBy : Opener → List Name
-askedBy (def t) = []
-askedBy (block t) = t ∷ []
-askedBy (local t) = t ∷ []
-askedBy (on c w) = []
+abbrev pub asked_by : Opener → List Name
+asked_by (def t) = []
+asked_by (block t) = t ∷ []
+asked_by (local t) = t ∷ []
+asked_by (on c w) = []
 
-abbrev pub conditionBy : Opener → List Name
-conditionBy (def t) = []
-conditionBy (block t) = []
-conditionBy (local t) = []
-conditionBy (on c w) = c ∷ []
+abbrev pub condition_by : Opener → List Name
+condition_by (def t) = []
+condition_by (block t) = []
+condition_by (local t) = []
+condition_by (on c w) = c ∷ []
 
 abbrev pub text_of : Leaf → List (List ℕ)
 text_of any = []
@@ -54,43 +54,43 @@ abbrev pub head_of : Token → List Name
 head_of = says (λ n. n ∷ []) nothing nothing
 
 abbrev pub call_of : Token → List Name
-call_of = says nothing calledBy nothing
+call_of = says nothing called_by nothing
 
 abbrev pub def_of : Token → List Name
-def_of = says nothing nothing definedBy
+def_of = says nothing nothing defined_by
 
-abbrev pub askOf : Token → List Name
-askOf = says nothing table_of askedBy
+abbrev pub ask_of : Token → List Name
+ask_of = says nothing table_of asked_by
 
-abbrev pub switchOf : Token → List Name
-switchOf = says nothing conditionOf conditionBy
+abbrev pub switch_of : Token → List Name
+switch_of = says nothing condition_of condition_by
 
-abbrev pub quotedIn : Token → List (List ℕ)
-quotedIn = says nothing text_of nothing
+abbrev pub quoted_in : Token → List (List ℕ)
+quoted_in = says nothing text_of nothing
 
 -- The same of tokens, in order.
-unfoldable pub perToken : {A : Type 0} → (Token → List A) → List Token → List A
-perToken f [] = []
-perToken f (t ∷ ts) = f t ++ perToken f ts
+unfoldable pub per_token : {A : Type 0} → (Token → List A) → List Token → List A
+per_token f [] = []
+per_token f (t ∷ ts) = f t ++ per_token f ts
 
-abbrev pub headsIn : List Token → List Name
-headsIn = perToken head_of
+abbrev pub heads_in : List Token → List Name
+heads_in = per_token head_of
 
-abbrev pub callsIn : List Token → List Name
-callsIn = perToken call_of
+abbrev pub calls_in : List Token → List Name
+calls_in = per_token call_of
 
-abbrev pub defsIn : List Token → List Name
-defsIn = perToken def_of
+abbrev pub defs_in : List Token → List Name
+defs_in = per_token def_of
 
-abbrev pub asksIn : List Token → List Name
-asksIn = perToken askOf
+abbrev pub asks_in : List Token → List Name
+asks_in = per_token ask_of
 
-abbrev pub conditionsIn : List Token → List Name
-conditionsIn = perToken switchOf
+abbrev pub conditions_in : List Token → List Name
+conditions_in = per_token switch_of
 
-abbrev pub textsIn : List Token → List (List ℕ)
-textsIn = perToken quotedIn
+abbrev pub texts_in : List Token → List (List ℕ)
+texts_in = per_token quoted_in
 
 -- A quoted text within 24's limit.
-abbrev pub isShort : List ℕ → Bool
-isShort s = leb (length s) 64
+abbrev pub is_short : List ℕ → Bool
+is_short s = leb (length s) 64

@@ -27,8 +27,8 @@ module _ (a : List ℕ) (i : ℕ) (b : List ℕ) (j n : ℕ) where
     pub on : k ≤ n
     pub left : whole ≡ rest k
 
-  pub compared-none : Compared 0
-  compared-none =
+  pub compared_none : Compared 0
+  compared_none =
       let e : n - 0 ≡ n = omega arith in
       let f : i + 0 ≡ i = omega arith in
       let g : j + 0 ≡ j = omega arith in
@@ -42,26 +42,26 @@ module _ (a : List ℕ) (i : ℕ) (b : List ℕ) (j n : ℕ) where
       rw (e, front a (i + k) (n - (k + 1)) ha, front b (j + k) (n - (k + 1)) hb, f, g)
 
   module _ {k : ℕ} (c : Compared k) (h : k < n) (ha : i + k < length a) (hb : j + k < length b) where
-    pub compared-more : get_or a (i + k) 0 ≡ get_or b (j + k) 0 → Compared (k + 1)
-    compared-more e = record {
+    pub compared_more : get_or a (i + k) 0 ≡ get_or b (j + k) 0 → Compared (k + 1)
+    compared_more e = record {
       on = omega arith;
       left = c.left ∙ one_more k h ha hb ∙ ap (λ t. t and rest (k + 1)) (eq-eqb (get_or a (i + k) 0) (get_or b (j + k) 0) e);
     }
 
-    pub compared-differs : (get_or a (i + k) 0 ≡ get_or b (j + k) 0 → ⊥) → false ≡ whole
-    compared-differs e =
+    pub compared_differs : (get_or a (i + k) 0 ≡ get_or b (j + k) 0 → ⊥) → false ≡ whole
+    compared_differs e =
         sym (c.left ∙ one_more k h ha hb ∙ ap (λ t. t and rest (k + 1)) (ne_eqb (get_or a (i + k) 0) (get_or b (j + k) 0) e))
 
-  pub compared-all : {k : ℕ} → Compared k → n ≤ k → true ≡ whole
-  compared-all {k} c h = let e : n - k ≡ 0 = omega arith in sym (c.left ∙ rw e)
+  pub compared_all : {k : ℕ} → Compared k → n ≤ k → true ≡ whole
+  compared_all {k} c h = let e : n - k ≡ 0 = omega arith in sym (c.left ∙ rw e)
 
 -- Bytes that stand in a list, against the front of what is left of another.
 module _ (input : List ℕ) (at : ℕ) (b : List ℕ) (j n : ℕ) (fits : j + n ≤ length b) where
   count : length (take n (drop j b)) ≡ n
   count = length-take-le n (drop j b) (rw (length-drop j b) (omega arith))
 
-  pub begins-same : {r : Bool} → r ≡ same (take n (drop at input)) (take n (drop j b)) → r ≡ begins (take n (drop j b)) (drop at input)
-  begins-same e = rw count e
+  pub begins_same : {r : Bool} → r ≡ same (take n (drop at input)) (take n (drop j b)) → r ≡ begins (take n (drop j b)) (drop at input)
+  begins_same e = rw count e
 
   shorter : (u v : List ℕ) → length u < length v → same u v ≡ false
   shorter [] [] h = absurd (omega arith)
@@ -73,23 +73,23 @@ module _ (input : List ℕ) (at : ℕ) (b : List ℕ) (j n : ℕ) (fits : j + n 
       go true e = e
       go false e = refl
 
-  pub begins-short : at ≤ length input → length input - at < n → false ≡ begins (take n (drop j b)) (drop at input)
-  begins-short l h =
+  pub begins_short : at ≤ length input → length input - at < n → false ≡ begins (take n (drop j b)) (drop at input)
+  begins_short l h =
       sym (rw count (shorter (take n (drop at input)) (take n (drop j b))
       (rw (count, length-take n (drop at input), length-drop at input) (omega arith))))
 
 -- ## Parts of the input
 
 module _ (x : List ℕ) where
-  part-long : (p q : ℕ) → q ≤ length x → length (part x p q) ≡ q - p
-  part-long p q h = length-take-le (q - p) (drop p x) (omega (arith, length-drop p x))
+  part_long : (p q : ℕ) → q ≤ length x → length (part x p q) ≡ q - p
+  part_long p q h = length-take-le (q - p) (drop p x) (omega (arith, length-drop p x))
 
   -- Parts of different lengths differ.
-  pub parts-differ : (p q i j : ℕ) → q ≤ length x → j ≤ length x → (j - i ≡ q - p → ⊥) → false ≡ same (part x p q) (part x i j)
-  parts-differ p q i j h k n = go (same (part x p q) (part x i j)) refl
+  pub parts_differ : (p q i j : ℕ) → q ≤ length x → j ≤ length x → (j - i ≡ q - p → ⊥) → false ≡ same (part x p q) (part x i j)
+  parts_differ p q i j h k n = go (same (part x p q) (part x i j)) refl
     where
       go : (b : Bool) → same (part x p q) (part x i j) ≡ b → false ≡ b
-      go true e = absurd (n (sym (part-long i j k) ∙ sym (same_length (part x p q) (part x i j) e) ∙ part-long p q h))
+      go true e = absurd (n (sym (part_long i j k) ∙ sym (same_length (part x p q) (part x i j) e) ∙ part_long p q h))
       go false e = refl
 
   -- Parts of one length, compared over it.
@@ -103,11 +103,11 @@ module _ (x : List ℕ) (at lo hi : ℕ) where
   pub none_left : length x ≤ at → false ≡ in_range lo hi (drop at x)
   none_left h = rw (drop_of_length-le x {i = at} h)
 
-  range-here : at < length x → (t : Bool) → leb lo (get_or x at 0) ≡ t → (t and leb (get_or x at 0) hi) ≡ in_range lo hi (drop at x)
-  range-here h t e = sym (ap (in_range lo hi) (drop-cons x at 0 h) ∙ ap (λ t. t and leb (get_or x at 0) hi) e)
+  range_here : at < length x → (t : Bool) → leb lo (get_or x at 0) ≡ t → (t and leb (get_or x at 0) hi) ≡ in_range lo hi (drop at x)
+  range_here h t e = sym (ap (in_range lo hi) (drop-cons x at 0 h) ∙ ap (λ t. t and leb (get_or x at 0) hi) e)
 
-  pub from-lo : at < length x → lo ≤ get_or x at 0 → leb (get_or x at 0) hi ≡ in_range lo hi (drop at x)
-  from-lo h l = range-here h true (le-leb lo (get_or x at 0) l)
+  pub from_lo : at < length x → lo ≤ get_or x at 0 → leb (get_or x at 0) hi ≡ in_range lo hi (drop at x)
+  from_lo h l = range_here h true (le-leb lo (get_or x at 0) l)
 
-  pub below-lo : at < length x → get_or x at 0 < lo → leb lo (get_or x at 0) ≡ in_range lo hi (drop at x)
-  below-lo h l = lt-leb lo (get_or x at 0) l ∙ range-here h false (lt-leb lo (get_or x at 0) l)
+  pub below_lo : at < length x → get_or x at 0 < lo → leb lo (get_or x at 0) ≡ in_range lo hi (drop at x)
+  below_lo h l = lt-leb lo (get_or x at 0) l ∙ range_here h false (lt-leb lo (get_or x at 0) l)

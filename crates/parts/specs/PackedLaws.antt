@@ -16,9 +16,9 @@ module _ (kind at held steps depth : ℕ) (hk : kind < 16) (ha : at ≤ 65535) (
   abbrev number : ℕ
   number = packed kind at held steps depth
 
-  place-back : atOf number ≡ at
+  place_back : atOf number ≡ at
   unfolding atOf
-  place-back = omega (arith, div-add-mod' number 65536, mod-lt number {m = 65536} (omega arith))
+  place_back = omega (arith, div-add-mod' number 65536, mod-lt number {m = 65536} (omega arith))
 
   held_back : heldOf number ≡ held
   unfolding heldOf
@@ -26,48 +26,48 @@ module _ (kind at held steps depth : ℕ) (hk : kind < 16) (ha : at ≤ 65535) (
       let q = number / 65536 in
       omega (arith, div-add-mod' number 65536, mod-lt number {m = 65536} (omega arith), div-add-mod' q 512, mod-lt q {m = 512} (omega arith))
 
-  depth-back : depth_of number ≡ depth
+  depth_back : depth_of number ≡ depth
   unfolding depth_of
-  depth-back =
+  depth_back =
       let q = number / 33554432 in
       omega (arith, div-add-mod' number 33554432, mod-lt number {m = 33554432} (omega arith), div-add-mod' q 512, mod-lt q {m = 512} (omega arith))
 
-  steps-rest : number / 17179869184 % 67108864 ≡ steps
-  steps-rest =
+  steps_rest : number / 17179869184 % 67108864 ≡ steps
+  steps_rest =
       let q = number / 17179869184 in
       omega (arith, div-add-mod' number 17179869184, mod-lt number {m = 17179869184} (omega arith), div-add-mod' q 67108864, mod-lt q {m = 67108864} (omega arith))
 
-  kind-back : number / 1152921504606846976 ≡ kind
-  kind-back = omega (arith, div-add-mod' number 1152921504606846976, mod-lt number {m = 1152921504606846976} (omega arith))
+  kind_back : number / 1152921504606846976 ≡ kind
+  kind_back = omega (arith, div-add-mod' number 1152921504606846976, mod-lt number {m = 1152921504606846976} (omega arith))
 
-  pub opens-passed : kind ≡ 0 → opened_of number ≡ Passed at held steps depth
+  pub opens_passed : kind ≡ 0 → opened_of number ≡ Passed at held steps depth
   unfolding opened_of steps_of
-  opens-passed z =
+  opens_passed z =
       let s : number / 17179869184 ≡ steps = omega (arith, div-add-mod' number 17179869184, mod-lt number {m = 17179869184} (omega arith)) in
-      rw (lt-ltb number 1152921504606846976 (omega arith), place-back, held_back, s, depth-back)
+      rw (lt-ltb number 1152921504606846976 (omega arith), place_back, held_back, s, depth_back)
 
-  pub opens-failed : kind ≡ 1 → opened_of number ≡ Failed steps depth
+  pub opens_failed : kind ≡ 1 → opened_of number ≡ Failed steps depth
   unfolding opened_of
-  opens-failed o = rw (le-ltb number 1152921504606846976 (omega arith), lt-ltb number 2305843009213693952 (omega arith), steps-rest, depth-back)
+  opens_failed o = rw (le-ltb number 1152921504606846976 (omega arith), lt-ltb number 2305843009213693952 (omega arith), steps_rest, depth_back)
 
-  pub opens-refused : 2 ≤ kind → opened_of number ≡ Refused kind at steps depth
+  pub opens_refused : 2 ≤ kind → opened_of number ≡ Refused kind at steps depth
   unfolding opened_of
-  opens-refused l =
+  opens_refused l =
       rw (
         le-ltb number 1152921504606846976 (omega arith),
         le-ltb number 2305843009213693952 (omega arith),
-        kind-back,
-        place-back,
-        steps-rest,
-        depth-back,
+        kind_back,
+        place_back,
+        steps_rest,
+        depth_back,
       )
 
 -- ## The number that an expression starts from
 
 module _ (from : ℕ) where
-  pub place-small : atOf from ≤ 65535
+  pub place_small : atOf from ≤ 65535
   unfolding atOf
-  place-small = omega (arith, mod-lt from {m = 65536} (omega arith))
+  place_small = omega (arith, mod-lt from {m = 65536} (omega arith))
 
   pub held_small : heldOf from ≤ 511
   unfolding heldOf
@@ -96,9 +96,9 @@ module _ (from : ℕ) where
       )
 
   -- Without its place and symbols it is its depth and steps.
-  pub tally-whole : from / 33554432 * 33554432 ≡ packed 0 0 0 (steps_of from) (depth_of from)
+  pub tally_whole : from / 33554432 * 33554432 ≡ packed 0 0 0 (steps_of from) (depth_of from)
   unfolding depth_of steps_of
-  tally-whole =
+  tally_whole =
       omega (
         arith,
         div-add-mod' from 33554432,
@@ -110,28 +110,28 @@ module _ (from : ℕ) where
       )
 
   module _ (few : steps_of from ≤ 1000000) where
-    pub short-number : from < 18014398509481984
-    short-number = omega (arith, whole, place-small, held_small, depth_small)
+    pub short_number : from < 18014398509481984
+    short_number = omega (arith, whole, place_small, held_small, depth_small)
 
     pub opens_stopped : (number : ℕ) → 12 ≤ number → number ≤ 15
         → opened_of (from + number * 1152921504606846976) ≡ Refused number (atOf from) (steps_of from) (depth_of from)
     opens_stopped number l h =
         let e : from + number * 1152921504606846976 ≡ packed number (atOf from) (heldOf from) (steps_of from) (depth_of from) = omega (arith, whole) in
         ap opened_of e
-        ∙ opens-refused number (atOf from) (heldOf from) (steps_of from) (depth_of from) (omega arith) place-small held_small (omega (arith, few)) depth_small
+        ∙ opens_refused number (atOf from) (heldOf from) (steps_of from) (depth_of from) (omega arith) place_small held_small (omega (arith, few)) depth_small
         (omega arith)
 
-    pub opens-onward : atOf from + 1 ≤ 65535 → opened_of (from + 1) ≡ Passed (atOf from + 1) (heldOf from) (steps_of from) (depth_of from)
-    opens-onward l =
+    pub opens_onward : atOf from + 1 ≤ 65535 → opened_of (from + 1) ≡ Passed (atOf from + 1) (heldOf from) (steps_of from) (depth_of from)
+    opens_onward l =
         let e : from + 1 ≡ packed 0 (atOf from + 1) (heldOf from) (steps_of from) (depth_of from) = omega (arith, whole) in
         ap opened_of e
-        ∙ opens-passed 0 (atOf from + 1) (heldOf from) (steps_of from) (depth_of from) (omega arith) l held_small (omega (arith, few)) depth_small refl
+        ∙ opens_passed 0 (atOf from + 1) (heldOf from) (steps_of from) (depth_of from) (omega arith) l held_small (omega (arith, few)) depth_small refl
 
-    pub opens-lost : opened_of (from / 33554432 * 33554432 + 1152921504606846976) ≡ Failed (steps_of from) (depth_of from)
-    opens-lost =
-        let e : from / 33554432 * 33554432 + 1152921504606846976 ≡ packed 1 0 0 (steps_of from) (depth_of from) = omega (arith, tally-whole) in
+    pub opens_lost : opened_of (from / 33554432 * 33554432 + 1152921504606846976) ≡ Failed (steps_of from) (depth_of from)
+    opens_lost =
+        let e : from / 33554432 * 33554432 + 1152921504606846976 ≡ packed 1 0 0 (steps_of from) (depth_of from) = omega (arith, tally_whole) in
         ap opened_of e
-        ∙ opens-failed 1 0 0 (steps_of from) (depth_of from) (omega arith) (omega arith) (omega arith) (omega (arith, few)) depth_small refl
+        ∙ opens_failed 1 0 0 (steps_of from) (depth_of from) (omega arith) (omega arith) (omega arith) (omega (arith, few)) depth_small refl
 
 -- What passed has the parts that it is opened to.
 pub has_parts : (r : ℕ) {a h s d : ℕ} → opened_of r ≡ Passed a h s d → (a ≡ atOf r) × (h ≡ heldOf r) × (s ≡ steps_of r) × (d ≡ depth_of r)
@@ -145,5 +145,5 @@ has_parts r {a} {h} {s} {d} e = go (ltb r 1152921504606846976) (ltb r 2305843009
     go false true e = let z : ◌≡◌ {A = ℕ} 0 1 = cc in absurd (omega arith)
     go false false e = let z : ◌≡◌ {A = ℕ} 0 1 = cc in absurd (omega arith)
 
-pub opened-parts : (r : ℕ) {a h s d : ℕ} → opened_of r ≡ Passed a h s d → opened_of r ≡ Passed (atOf r) (heldOf r) (steps_of r) (depth_of r)
-opened-parts r e = let p = has_parts r e in rw (sym p.0, sym p.1, sym p.2, sym p.3) e
+pub opened_parts : (r : ℕ) {a h s d : ℕ} → opened_of r ≡ Passed a h s d → opened_of r ≡ Passed (atOf r) (heldOf r) (steps_of r) (depth_of r)
+opened_parts r e = let p = has_parts r e in rw (sym p.0, sym p.1, sym p.2, sym p.3) e

@@ -1,4 +1,4 @@
--- A table's list, found in the slot buffer: the latest symbol is where `latestOf` says, and the rest of the list is what lies below it.
+-- A table's list, found in the slot buffer: the latest symbol is where `latest_of` says, and the rest of the list is what lies below it.
 use Prim.Native.Nat.{ℕ, zero, suc, ◌+◌, ◌-◌, ◌*◌, ◌≤◌, ◌<◌}
 use Rattle.std.specs.Prelude.{◌≡◌, Bool, ltb, length, take, drop, get_or}
 use Rattle.std.proofs.Math.Path.{refl, ap}
@@ -8,26 +8,26 @@ use mathlib.Core.List.{List, [], ◌∷◌, ◌++◌, reverse, append-nil, rever
 use Rattle.std.proofs.Math.Dec.{eqb}
 use Rattle.std.proofs.lemmas.List.{drop-append-le}
 use Rattle.format.specs.Reading.{pick}
-use Rattle.meaning.specs.State.{Symbol, State, Env, ofTable, visible}
-use Rattle.meaning.specs.Scopes.{of-append}
+use Rattle.meaning.specs.State.{Symbol, State, Env, of_table, visible}
+use Rattle.meaning.specs.Scopes.{of_append}
 use Rattle.meaning.specs.Outcome.{same, some, part, text, among}
-use Rattle.parts.specs.Slots.{symbol_at, symbols, latestOf}
-use Rattle.parts.specs.SlotsLaws.{symbols-length}
+use Rattle.parts.specs.Slots.{symbol_at, symbols, latest_of}
+use Rattle.parts.specs.SlotsLaws.{symbols_length}
 
 module _ (table low : ℕ) (slots : List ℕ) where
   -- The list of the table, of the first h symbols those from `low` on, latest first.
   abbrev pub listed : ℕ → State
-  listed h = reverse (ofTable table (drop low (symbols h slots)))
+  listed h = reverse (of_table table (drop low (symbols h slots)))
 
   below_floor : (h : ℕ) → h ≤ low → listed h ≡ []
-  below_floor h l = rw (drop_of_length-le (symbols h slots) {i = low} (omega (arith, symbols-length h slots)))
+  below_floor h l = rw (drop_of_length-le (symbols h slots) {i = low} (omega (arith, symbols_length h slots)))
 
-  pub listed-step : (h : ℕ) → low ≤ h → listed (suc h) ≡ pick (eqb (get_or slots (h * 3) 0) table) (symbol_at slots h ∷ listed h) (listed h)
+  pub listed_step : (h : ℕ) → low ≤ h → listed (suc h) ≡ pick (eqb (get_or slots (h * 3) 0) table) (symbol_at slots h ∷ listed h) (listed h)
   unfolding symbols
-  listed-step h l =
-      ap reverse (ap (ofTable table) (drop-append-le low (symbols h slots) (symbol_at slots h ∷ []) (omega (arith, symbols-length h slots)))
-      ∙ of-append table (drop low (symbols h slots)) (symbol_at slots h ∷ []))
-      ∙ reverse-append (ofTable table (drop low (symbols h slots))) (ofTable table (symbol_at slots h ∷ []))
+  listed_step h l =
+      ap reverse (ap (of_table table) (drop-append-le low (symbols h slots) (symbol_at slots h ∷ []) (omega (arith, symbols_length h slots)))
+      ∙ of_append table (drop low (symbols h slots)) (symbol_at slots h ∷ []))
+      ∙ reverse-append (of_table table (drop low (symbols h slots))) (of_table table (symbol_at slots h ∷ []))
       ∙ go (eqb (get_or slots (h * 3) 0) table)
     where
       go : (b : Bool) → reverse (elim b [ true ↦ symbol_at slots h ∷ [] | false ↦ [] ]) ++ listed h ≡ pick b (symbol_at slots h ∷ listed h) (listed h)
@@ -39,33 +39,33 @@ module _ (table low : ℕ) (slots : List ℕ) where
     none : listed h ≡ [] → Latest h 0
     found : {k : ℕ} → low ≤ k → k < h → listed h ≡ symbol_at slots k ∷ listed k → Latest h (suc k)
 
-  passed-by : (h : ℕ) {n : ℕ} → listed (suc h) ≡ listed h → Latest h n → Latest (suc h) n
-  passed-by h e (none f) = none (e ∙ f)
-  passed-by h e (found l m f) = found l (omega (arith, m)) (e ∙ f)
+  passed_by : (h : ℕ) {n : ℕ} → listed (suc h) ≡ listed h → Latest h n → Latest (suc h) n
+  passed_by h e (none f) = none (e ∙ f)
+  passed_by h e (found l m f) = found l (omega (arith, m)) (e ∙ f)
 
-  pub latest-is : (h : ℕ) → Latest h (latestOf table low h slots)
-  unfolding latestOf
-  latest-is zero = none (below_floor 0 (omega arith))
-  latest-is (suc h) = go (ltb h low) refl (latest-is h)
+  pub latest_is : (h : ℕ) → Latest h (latest_of table low h slots)
+  unfolding latest_of
+  latest_is zero = none (below_floor 0 (omega arith))
+  latest_is (suc h) = go (ltb h low) refl (latest_is h)
     where
-      this : low ≤ h → (b : Bool) → eqb (get_or slots (h * 3) 0) table ≡ b → Latest h (latestOf table low h slots)
-          → Latest (suc h) (pick b (suc h) (latestOf table low h slots))
-      this l true e r = found l (omega arith) (listed-step h l ∙ ap (λ b. pick b (symbol_at slots h ∷ listed h) (listed h)) e)
-      this l false e r = passed-by h (listed-step h l ∙ ap (λ b. pick b (symbol_at slots h ∷ listed h) (listed h)) e) r
+      this : low ≤ h → (b : Bool) → eqb (get_or slots (h * 3) 0) table ≡ b → Latest h (latest_of table low h slots)
+          → Latest (suc h) (pick b (suc h) (latest_of table low h slots))
+      this l true e r = found l (omega arith) (listed_step h l ∙ ap (λ b. pick b (symbol_at slots h ∷ listed h) (listed h)) e)
+      this l false e r = passed_by h (listed_step h l ∙ ap (λ b. pick b (symbol_at slots h ∷ listed h) (listed h)) e) r
 
-      go : (b : Bool) → ltb h low ≡ b → Latest h (latestOf table low h slots)
-          → Latest (suc h) (pick b 0 (pick (eqb (get_or slots (h * 3) 0) table) (suc h) (latestOf table low h slots)))
+      go : (b : Bool) → ltb h low ≡ b → Latest h (latest_of table low h slots)
+          → Latest (suc h) (pick b 0 (pick (eqb (get_or slots (h * 3) 0) table) (suc h) (latest_of table low h slots)))
       go true e r = none (below_floor (suc h) (ltb-true h low e))
       go false e r = this (ltb-false h low e) (eqb (get_or slots (h * 3) 0) table) refl r
 
-  pub latest-below : {h n : ℕ} → Latest h n → n ≤ h
-  latest-below (none e) = omega arith
-  latest-below (found l m e) = omega (arith, m)
+  pub latest_below : {h n : ℕ} → Latest h n → n ≤ h
+  latest_below (none e) = omega arith
+  latest_below (found l m e) = omega (arith, m)
 
 -- Nothing is seen, or the list begins with what is seen.
-module _ (table low : ℕ) (slots : List ℕ) (held : ℕ) {seen : ℕ} (e : seen ≡ latestOf table low held slots) where
+module _ (table low : ℕ) (slots : List ℕ) (held : ℕ) {seen : ℕ} (e : seen ≡ latest_of table low held slots) where
   seeing : Latest table low slots held seen
-  seeing = subst (Latest table low slots held) (sym e) (latest-is table low slots held)
+  seeing = subst (Latest table low slots held) (sym e) (latest_is table low slots held)
 
   pub seen_none : seen ≡ 0 → listed table low slots held ≡ []
   seen_none z = go seeing z
@@ -75,7 +75,7 @@ module _ (table low : ℕ) (slots : List ℕ) (held : ℕ) {seen : ℕ} (e : see
       go (found l m f) z = absurd (omega arith)
 
   pub seen_below : seen ≤ held
-  seen_below = latest-below table low slots seeing
+  seen_below = latest_below table low slots seeing
 
   pub seen_front : 0 < seen → listed table low slots held ≡ symbol_at slots (seen - 1) ∷ listed table low slots (seen - 1)
   seen_front l = go seeing l
@@ -86,8 +86,8 @@ module _ (table low : ℕ) (slots : List ℕ) (held : ℕ) {seen : ℕ} (e : see
           let z : k ≡ suc k - 1 = omega arith in
           f ∙ ap (λ k. symbol_at slots k ∷ listed table low slots k) z
 
-  pub seen-some : ltb 0 seen ≡ some (listed table low slots held)
-  seen-some = go (ltb 0 seen) refl
+  pub seen_some : ltb 0 seen ≡ some (listed table low slots held)
+  seen_some = go (ltb 0 seen) refl
     where
       go : (b : Bool) → ltb 0 seen ≡ b → ltb 0 seen ≡ some (listed table low slots held)
       go true h = h ∙ sym (ap some (seen_front (ltb-true 0 seen h)))
@@ -99,8 +99,8 @@ module _ (x bytes : List ℕ) (table low : ℕ) (slots : List ℕ) where
   found_in h = among x bytes (listed table low slots h)
 
   -- Nothing is left below the floor.
-  pub look-end : (n : ℕ) → n ≤ low → false ≡ found_in n
-  look-end n l = rw (below_floor table low slots n l)
+  pub look_end : (n : ℕ) → n ≤ low → false ≡ found_in n
+  look_end n l = rw (below_floor table low slots n l)
 
   module _ (n : ℕ) (l : low < n) where
     abbrev here : Symbol
@@ -111,20 +111,20 @@ module _ (x bytes : List ℕ) (table low : ℕ) (slots : List ℕ) where
     step b e =
         let z : n ≡ suc (n - 1) = omega (arith, l) in
         ap found_in z
-        ∙ ap (among x bytes) (listed-step table low slots (n - 1) (omega (arith, l))
+        ∙ ap (among x bytes) (listed_step table low slots (n - 1) (omega (arith, l))
         ∙ ap (λ b. pick b (here ∷ listed table low slots (n - 1)) (listed table low slots (n - 1))) e)
 
     -- Another table's symbol is passed by.
-    pub look-other : (get_or slots ((n - 1) * 3) 0 ≡ table → ⊥) → found_in n ≡ found_in (n - 1)
-    look-other d = step false (ne_eqb (get_or slots ((n - 1) * 3) 0) table d)
+    pub look_other : (get_or slots ((n - 1) * 3) 0 ≡ table → ⊥) → found_in n ≡ found_in (n - 1)
+    look_other d = step false (ne_eqb (get_or slots ((n - 1) * 3) 0) table d)
 
     module _ (own : get_or slots ((n - 1) * 3) 0 ≡ table) where
-      among-step : (b : Bool) → b ≡ same bytes (text x here) → found_in n ≡ elim b [ true ↦ true | false ↦ found_in (n - 1) ]
-      among-step b e =
+      among_step : (b : Bool) → b ≡ same bytes (text x here) → found_in n ≡ elim b [ true ↦ true | false ↦ found_in (n - 1) ]
+      among_step b e =
           step true (eq-eqb (get_or slots ((n - 1) * 3) 0) table own) ∙ ap (λ b. elim b [ true ↦ true | false ↦ found_in (n - 1) ]) (sym e)
 
-      pub look-found : true ≡ same bytes (text x here) → true ≡ found_in n
-      look-found e = sym (among-step true e)
+      pub look_found : true ≡ same bytes (text x here) → true ≡ found_in n
+      look_found e = sym (among_step true e)
 
-      pub look-differs : false ≡ same bytes (text x here) → found_in n ≡ found_in (n - 1)
-      look-differs e = among-step false e
+      pub look_differs : false ≡ same bytes (text x here) → found_in n ≡ found_in (n - 1)
+      look_differs e = among_step false e

@@ -18,9 +18,9 @@ abbrev pub putting : List ℕ → (h table from to : ℕ) → List ℕ
 putting slots h table from to = set (set (set slots (h * 3) table) (h * 3 + 1) from) (h * 3 + 2) to
 
 -- One more than the number of the latest symbol of a table among those from `low` up to `held`; 0 if there is none.
-unfoldable pub latestOf : (table low held : ℕ) → List ℕ → ℕ
-latestOf table low zero slots = 0
-latestOf table low (suc h) slots = pick (ltb h low) 0 (pick (eqb (get_or slots (h * 3) 0) table) (suc h) (latestOf table low h slots))
+unfoldable pub latest_of : (table low held : ℕ) → List ℕ → ℕ
+latest_of table low zero slots = 0
+latest_of table low (suc h) slots = pick (ltb h low) 0 (pick (eqb (get_or slots (h * 3) 0) table) (suc h) (latest_of table low h slots))
 
 -- Nothing below a number of symbols is written, and the buffer keeps its length.
 pub record Below (mark : ℕ) (before after : List ℕ) : Type 0 where

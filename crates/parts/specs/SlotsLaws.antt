@@ -10,35 +10,35 @@ use borrow.Author.Tests.{le-ltb, lt-ltb, ltb-true, ltb-false, eq-eqb, ne_eqb}
 use Rattle.format.specs.Reading.{pick}
 use Rattle.meaning.specs.State.{Symbol, State, others}
 use Rattle.meaning.specs.Rules.{symbol}
-use Rattle.parts.specs.Slots.{symbol_at, symbols, putting, latestOf, Below, Closes}
+use Rattle.parts.specs.Slots.{symbol_at, symbols, putting, latest_of, Below, Closes}
 
 -- ## The latest symbol of a table
 
 module _ (table low : ℕ) (slots : List ℕ) where
-  pub latest-step :
+  pub latest_step :
       (from : ℕ) → low < from
-      → latestOf table low from slots ≡ pick (eqb (get_or slots ((from - 1) * 3) 0) table) from (latestOf table low (from - 1) slots)
-  unfolding latestOf
-  latest-step zero h = absurd (omega arith)
-  latest-step (suc h) l = let e : suc h - 1 ≡ h = omega arith in rw (e, le-ltb h low (omega arith))
+      → latest_of table low from slots ≡ pick (eqb (get_or slots ((from - 1) * 3) 0) table) from (latest_of table low (from - 1) slots)
+  unfolding latest_of
+  latest_step zero h = absurd (omega arith)
+  latest_step (suc h) l = let e : suc h - 1 ≡ h = omega arith in rw (e, le-ltb h low (omega arith))
 
-  pub latest-end : (from : ℕ) → from ≤ low → 0 ≡ latestOf table low from slots
-  unfolding latestOf
-  latest-end zero h = refl
-  latest-end (suc h) l = rw (lt-ltb h low (omega arith))
+  pub latest_end : (from : ℕ) → from ≤ low → 0 ≡ latest_of table low from slots
+  unfolding latest_of
+  latest_end zero h = refl
+  latest_end (suc h) l = rw (lt-ltb h low (omega arith))
 
   -- The search from `held` down has come to `from`.
   pub record Sought (held from : ℕ) : Type 0 where
     pub on : from ≤ held
-    pub is : latestOf table low held slots ≡ latestOf table low from slots
+    pub is : latest_of table low held slots ≡ latest_of table low from slots
 
   module _ {held from : ℕ} (s : Sought held from) (h : low < from) where
-    pub sought-here : get_or slots ((from - 1) * 3) 0 ≡ table → from ≡ latestOf table low held slots
-    sought-here e = sym (s.is ∙ latest-step from h ∙ rw (eq-eqb (get_or slots ((from - 1) * 3) 0) table e))
+    pub sought_here : get_or slots ((from - 1) * 3) 0 ≡ table → from ≡ latest_of table low held slots
+    sought_here e = sym (s.is ∙ latest_step from h ∙ rw (eq-eqb (get_or slots ((from - 1) * 3) 0) table e))
 
-    pub sought-on : (get_or slots ((from - 1) * 3) 0 ≡ table → ⊥) → Sought held (from - 1)
-    sought-on e =
-        record { on = omega (arith, s.on); is = s.is ∙ latest-step from h ∙ rw (ne_eqb (get_or slots ((from - 1) * 3) 0) table e) }
+    pub sought_on : (get_or slots ((from - 1) * 3) 0 ≡ table → ⊥) → Sought held (from - 1)
+    sought_on e =
+        record { on = omega (arith, s.on); is = s.is ∙ latest_step from h ∙ rw (ne_eqb (get_or slots ((from - 1) * 3) 0) table e) }
 
 -- ## Zeros
 
@@ -46,15 +46,15 @@ abbrev pub zeroed : (start i : ℕ) → List ℕ → List ℕ
 zeroed start i slots = take start slots ++ (replicate (i - start) 0 ++ drop i slots)
 
 module _ (start : ℕ) (slots : List ℕ) where
-  pub zeroed-none : start ≤ length slots → slots ≡ zeroed start start slots
-  zeroed-none h = let e : start - start ≡ 0 = omega arith in rw e (sym (take-append-drop start slots))
+  pub zeroed_none : start ≤ length slots → slots ≡ zeroed start start slots
+  zeroed_none h = let e : start - start ≡ 0 = omega arith in rw e (sym (take-append-drop start slots))
 
   one_more : (n : ℕ) (l : List ℕ) → replicate n 0 ++ (0 ∷ l) ≡ replicate (suc n) 0 ++ l
   one_more zero l = refl
   one_more (suc n) l = ap (λ m. 0 ∷ m) (one_more n l)
 
-  pub zeroed-more : (i : ℕ) → start ≤ i → i < length slots → set (zeroed start i slots) i 0 ≡ zeroed start (i + 1) slots
-  zeroed-more i h l =
+  pub zeroed_more : (i : ℕ) → start ≤ i → i < length slots → set (zeroed start i slots) i 0 ≡ zeroed start (i + 1) slots
+  zeroed_more i h l =
       let p = take start slots ++ replicate (i - start) 0 in
       let long : length p ≡ i = length-append (take start slots) (replicate (i - start) 0)
       ∙ rw (length-take-le start slots (omega arith), length-replicate {A = ℕ} (i - start) 0) (omega arith) in
@@ -65,41 +65,41 @@ module _ (start : ℕ) (slots : List ℕ) where
       ∙ append_assoc (take start slots) (replicate (i - start) 0) (0 ∷ drop (suc i) slots)
       ∙ rw (count, add-one i) (ap (λ m. take start slots ++ m) (one_more (i - start) (drop (suc i) slots)))
 
-  pub zeroed-all :
+  pub zeroed_all :
       (i : ℕ) → length slots ≤ i → start ≤ length slots → i ≤ length slots
       → zeroed start i slots ≡ take start slots ++ replicate (length slots - start) 0
-  zeroed-all i h l m =
+  zeroed_all i h l m =
       let e : i ≡ length slots = omega arith in
       rw (e, drop_of_length-le slots {i = length slots} (omega arith), append-nil {A = ℕ} (replicate (length slots - start) 0))
 
 -- ## Symbols and stores
 
-pub symbols-length : (h : ℕ) (slots : List ℕ) → length (symbols h slots) ≡ h
+pub symbols_length : (h : ℕ) (slots : List ℕ) → length (symbols h slots) ≡ h
 unfolding symbols
-symbols-length zero slots = refl
-symbols-length (suc h) slots = length-append (symbols h slots) (symbol_at slots h ∷ []) ∙ omega (arith, symbols-length h slots)
+symbols_length zero slots = refl
+symbols_length (suc h) slots = length-append (symbols h slots) (symbol_at slots h ∷ []) ∙ omega (arith, symbols_length h slots)
 
 -- Symbols that lie where nothing was written are as they were.
-pub symbols-same : (h : ℕ) (s s' : List ℕ) → ((k : ℕ) → k < h * 3 → get_or s' k 0 ≡ get_or s k 0) → symbols h s' ≡ symbols h s
+pub symbols_same : (h : ℕ) (s s' : List ℕ) → ((k : ℕ) → k < h * 3 → get_or s' k 0 ≡ get_or s k 0) → symbols h s' ≡ symbols h s
 unfolding symbols
-symbols-same zero s s' e = refl
-symbols-same (suc h) s s' e =
-    cc (e (h * 3) (omega arith), e (h * 3 + 1) (omega arith), e (h * 3 + 2) (omega arith), symbols-same h s s' (λ k l. e k (omega arith)))
+symbols_same zero s s' e = refl
+symbols_same (suc h) s s' e =
+    cc (e (h * 3) (omega arith), e (h * 3 + 1) (omega arith), e (h * 3 + 2) (omega arith), symbols_same h s s' (λ k l. e k (omega arith)))
 
 module _ (slots : List ℕ) (h table from to : ℕ) (room : h * 3 + 3 ≤ length slots) where
-  pub putting-length : length (putting slots h table from to) ≡ length slots
-  putting-length = simp length-set
+  pub putting_length : length (putting slots h table from to) ≡ length slots
+  putting_length = simp length-set
 
-  pub putting-other :
+  pub putting_other :
       (k : ℕ) → (k ≡ h * 3 → ⊥) → (k ≡ h * 3 + 1 → ⊥) → (k ≡ h * 3 + 2 → ⊥) → get_or (putting slots h table from to) k 0 ≡ get_or slots k 0
-  putting-other k n0 n1 n2 =
+  putting_other k n0 n1 n2 =
       get_or-set_other (set (set slots (h * 3) table) (h * 3 + 1) from) (h * 3 + 2) k to 0 n2
       ∙ get_or-set_other (set slots (h * 3) table) (h * 3 + 1) k from 0 n1
       ∙ get_or-set_other slots (h * 3) k table 0 n0
 
   -- What was put down stands there.
-  pub putting-symbol : symbol_at (putting slots h table from to) h ≡ symbol table from to
-  putting-symbol =
+  pub putting_symbol : symbol_at (putting slots h table from to) h ≡ symbol table from to
+  putting_symbol =
       let one = set slots (h * 3) table in
       let two = set one (h * 3 + 1) from in
       let a : get_or (putting slots h table from to) (h * 3) 0 ≡ table =
@@ -113,20 +113,20 @@ module _ (slots : List ℕ) (h table from to : ℕ) (room : h * 3 + 3 ≤ length
       cc
 
   -- One symbol more is held.
-  pub putting-more : symbols (suc h) (putting slots h table from to) ≡ symbols h slots ++ (symbol table from to ∷ [])
+  pub putting_more : symbols (suc h) (putting slots h table from to) ≡ symbols h slots ++ (symbol table from to ∷ [])
   unfolding symbols
-  putting-more =
+  putting_more =
       cc (
-        symbols-same h slots (putting slots h table from to)
-            (λ k l. putting-other k (λ e. omega arith) (λ e. omega arith) (λ e. omega arith)),
-        putting-symbol,
+        symbols_same h slots (putting slots h table from to)
+            (λ k l. putting_other k (λ e. omega arith) (λ e. omega arith) (λ e. omega arith)),
+        putting_symbol,
       )
 
 -- ## A scope that closes
 
-others-append : (t : ℕ) (σ τ : State) → others t (σ ++ τ) ≡ others t σ ++ others t τ
-others-append t [] τ = refl
-others-append t (s ∷ σ) τ = go (eqb s.table t) (others-append t σ τ)
+others_append : (t : ℕ) (σ τ : State) → others t (σ ++ τ) ≡ others t σ ++ others t τ
+others_append t [] τ = refl
+others_append t (s ∷ σ) τ = go (eqb s.table t) (others_append t σ τ)
   where
     go : (b : Bool) → others t (σ ++ τ) ≡ others t σ ++ others t τ
         → (elim b [ true ↦ others t (σ ++ τ) | false ↦ s ∷ others t (σ ++ τ) ])
@@ -134,8 +134,8 @@ others-append t (s ∷ σ) τ = go (eqb s.table t) (others-append t σ τ)
     go true e = e
     go false e = ap (λ l. s ∷ l) e
 
-one-dropped : (t : ℕ) (s : Symbol) → s.table ≡ t → others t (s ∷ []) ≡ []
-one-dropped t s e = rw (eq-eqb s.table t e, others)
+one_dropped : (t : ℕ) (s : Symbol) → s.table ≡ t → others t (s ∷ []) ≡ []
+one_dropped t s e = rw (eq-eqb s.table t e, others)
 
 one_kept : (t : ℕ) (s : Symbol) → (s.table ≡ t → ⊥) → others t (s ∷ []) ≡ s ∷ []
 one_kept t s e = rw (ne_eqb s.table t e, others)
@@ -157,15 +157,15 @@ module _ (table mark held : ℕ) (before : List ℕ) where
   unfolding symbols
   stays from h =
       ap (others table) (drop-append-le mark (symbols from before) (symbol_at before from ∷ [])
-      (omega (arith, symbols-length from before)))
-      ∙ others-append table (drop mark (symbols from before)) (symbol_at before from ∷ [])
+      (omega (arith, symbols_length from before)))
+      ∙ others_append table (drop mark (symbols from before)) (symbol_at before from ∷ [])
 
-  pub closing-starts : mark ≤ held → Closing before mark mark
-  closing-starts h = record {
+  pub closing_starts : mark ≤ held → Closing before mark mark
+  closing_starts h = record {
     start = omega arith;
     behind = omega arith;
     on = h;
-    holds = rw (drop_of_length-le (symbols mark before) {i = mark} (omega (arith, symbols-length mark before)))
+    holds = rw (drop_of_length-le (symbols mark before) {i = mark} (omega (arith, symbols_length mark before)))
         (sym (append-nil (symbols mark before)));
     frame = record { long = refl; same = λ k l. refl };
     ahead = λ k l. refl;
@@ -173,24 +173,24 @@ module _ (table mark held : ℕ) (before : List ℕ) where
 
   module _ {after : List ℕ} {from to : ℕ} (c : Closing after from to) (h : from < held) where
     -- A symbol of the table is passed over.
-    pub closing-drops : get_or after (from * 3) 0 ≡ table → Closing after (from + 1) to
-    closing-drops e =
+    pub closing_drops : get_or after (from * 3) 0 ≡ table → Closing after (from + 1) to
+    closing_drops e =
         let own : get_or before (from * 3) 0 ≡ table = sym (c.ahead (from * 3) (omega (arith, c.behind))) ∙ e in
         record {
           start = c.start;
           behind = omega (arith, c.behind);
           on = omega arith;
           holds = rw (add-one from) (c.holds ∙ ap (λ l. symbols mark before ++ l) (sym (stays from (omega (arith, c.start, c.behind))
-              ∙ rw (one-dropped table (symbol_at before from) own) (append-nil (others table (drop mark (symbols from before)))))));
+              ∙ rw (one_dropped table (symbol_at before from) own) (append-nil (others table (drop mark (symbols from before)))))));
           frame = c.frame;
           ahead = c.ahead;
         }
 
     -- A symbol of another table slides down.
-    pub closing-keeps : (get_or after (from * 3) 0 ≡ table → ⊥) → held * 3 ≤ length after
+    pub closing_keeps : (get_or after (from * 3) 0 ≡ table → ⊥) → held * 3 ≤ length after
         → Closing (putting after to (get_or after (from * 3) 0) (get_or after (from * 3 + 1) 0) (get_or after (from * 3 + 2) 0)) (from + 1)
         (to + 1)
-    closing-keeps e room =
+    closing_keeps e room =
         let t = get_or after (from * 3) 0 in let p = get_or after (from * 3 + 1) 0 in let q = get_or after (from * 3 + 2) 0 in
         let fits : to * 3 + 3 ≤ length after = omega (arith, c.behind) in
         let same : symbol t p q
@@ -204,42 +204,42 @@ module _ (table mark held : ℕ) (before : List ℕ) where
           start = omega (arith, c.start);
           behind = omega (arith, c.behind);
           on = omega arith;
-          holds = rw (add-one from, add-one to) (putting-more after to t p q fits ∙ ap (λ l. l ++ (symbol t p q ∷ [])) c.holds
+          holds = rw (add-one from, add-one to) (putting_more after to t p q fits ∙ ap (λ l. l ++ (symbol t p q ∷ [])) c.holds
               ∙ append_assoc (symbols mark before) (others table (drop mark (symbols from before))) (symbol t p q ∷ [])
               ∙ ap (λ l. symbols mark before ++ l) (ap (λ s. others table (drop mark (symbols from before)) ++ (s ∷ [])) same
               ∙ sym (stays from (omega (arith, c.start, c.behind)) ∙ rw (one_kept table (symbol_at before from) other))));
           frame = record {
-            long = putting-length after to t p q fits ∙ c.frame.long;
+            long = putting_length after to t p q fits ∙ c.frame.long;
             same =
-                λ k l. putting-other after to t p q fits k (λ z. omega (arith, c.start)) (λ z. omega (arith, c.start))
+                λ k l. putting_other after to t p q fits k (λ z. omega (arith, c.start)) (λ z. omega (arith, c.start))
                 (λ z. omega (arith, c.start)) ∙ c.frame.same k l;
           };
           ahead =
-              λ k l. putting-other after to t p q fits k (λ z. omega arith) (λ z. omega arith) (λ z. omega arith)
+              λ k l. putting_other after to t p q fits k (λ z. omega arith) (λ z. omega arith) (λ z. omega arith)
               ∙ c.ahead k (omega arith);
         }
 
-  pub closing-ends : {after : List ℕ} {from to : ℕ} → Closing after from to → held ≤ from → Closes table mark held before after to
-  closing-ends {after} {from} {to} c h =
+  pub closing_ends : {after : List ℕ} {from to : ℕ} → Closing after from to → held ≤ from → Closes table mark held before after to
+  closing_ends {after} {from} {to} c h =
       let e : from ≡ held = omega (arith, c.on) in
       record { least = c.start; most = omega (arith, c.behind, c.on); holds = rw e at c.holds; frame = c.frame; past = c.ahead }
 
 -- ## A closed scope leaves one buffer
 
 -- The symbols held fix the numbers that keep them.
-symbols-numbers : (h : ℕ) (a b : List ℕ) → symbols h a ≡ symbols h b → (k : ℕ) → k < h * 3 → get_or a k 0 ≡ get_or b k 0
+symbols_numbers : (h : ℕ) (a b : List ℕ) → symbols h a ≡ symbols h b → (k : ℕ) → k < h * 3 → get_or a k 0 ≡ get_or b k 0
 unfolding symbols
-symbols-numbers zero a b e k l = absurd (omega arith)
-symbols-numbers (suc h) a b e k l = go (λ f k l. symbols-numbers h a b f k l) (ltb k (h * 3)) refl
+symbols_numbers zero a b e k l = absurd (omega arith)
+symbols_numbers (suc h) a b e k l = go (λ f k l. symbols_numbers h a b f k l) (ltb k (h * 3)) refl
   where
     front_of : (c : List ℕ) → take h (symbols h c ++ (symbol_at c h ∷ [])) ≡ symbols h c
     front_of c =
-        subst (λ n. take n (symbols h c ++ (symbol_at c h ∷ [])) ≡ symbols h c) (symbols-length h c)
+        subst (λ n. take n (symbols h c ++ (symbol_at c h ∷ [])) ≡ symbols h c) (symbols_length h c)
         (take-append_seam (symbols h c) (symbol_at c h ∷ []))
 
     end_of : (c : List ℕ) → drop h (symbols h c ++ (symbol_at c h ∷ [])) ≡ symbol_at c h ∷ []
     end_of c =
-        subst (λ n. drop n (symbols h c ++ (symbol_at c h ∷ [])) ≡ symbol_at c h ∷ []) (symbols-length h c)
+        subst (λ n. drop n (symbols h c ++ (symbol_at c h ∷ [])) ≡ symbol_at c h ∷ []) (symbols_length h c)
         (drop-append_seam (symbols h c) (symbol_at c h ∷ []))
 
     last : symbol_at a h ≡ symbol_at b h
@@ -260,16 +260,16 @@ symbols-numbers (suc h) a b e k l = go (λ f k l. symbols-numbers h a b f k l) (
         subst (λ k. get_or a k 0 ≡ get_or b k 0) z (three (k - h * 3) (omega (arith, ltb-false k (h * 3) q)))
 
 -- Two outcomes that `Closes` permits are equal.
-pub closes-once : {table mark held : ℕ} {before a b : List ℕ} {r q : ℕ}
+pub closes_once : {table mark held : ℕ} {before a b : List ℕ} {r q : ℕ}
     → Closes table mark held before a r → Closes table mark held before b q → (r ≡ q) × (a ≡ b)
-closes-once {before =
+closes_once {before =
     before} {a} {b} {r} {q} c d = (same, ext_get_or 0 a b (c.frame.long ∙ sym d.frame.long) (λ k l. go k (ltb k (r * 3)) refl))
   where
     same : r ≡ q
-    same = sym (symbols-length r a) ∙ ap length (c.holds ∙ sym d.holds) ∙ symbols-length q b
+    same = sym (symbols_length r a) ∙ ap length (c.holds ∙ sym d.holds) ∙ symbols_length q b
 
     go : (k : ℕ) (t : Bool) → ltb k (r * 3) ≡ t → get_or a k 0 ≡ get_or b k 0
     go k true e =
-        symbols-numbers r a b (c.holds ∙ sym d.holds ∙ ap (λ n. symbols n b) (sym same)) k (ltb-true k (r * 3) e)
+        symbols_numbers r a b (c.holds ∙ sym d.holds ∙ ap (λ n. symbols n b) (sym same)) k (ltb-true k (r * 3) e)
     go k false e =
         let h = ltb-false k (r * 3) e in c.past k h ∙ sym (d.past k (omega (arith, same)))

@@ -1,7 +1,7 @@
 // The slot buffer: three numbers a held symbol (table, start, end), oldest first. A caller that keeps its own number of held symbols keeps
 // those symbols: neither `store` nor `close` writes below it.
 ghost use Rattle.std.specs.Prelude.{◌≡◌, ◌+◌, ◌-◌, ◌*◌, ◌≤◌, ◌++◌, length, take, drop, replicate};
-ghost use Rattle.parts.specs.Slots.{putting, latestOf, Closes};
+ghost use Rattle.parts.specs.Slots.{putting, latest_of, Closes};
 
 // Puts a symbol down behind the first `held`.
 pub fn store(slots: &mut [u32], held: u32, table: u32, from: u32, to: u32)
@@ -17,7 +17,7 @@ pub fn store(slots: &mut [u32], held: u32, table: u32, from: u32, to: u32)
 // One more than the number of a table's latest symbol among those from `low` up to `held`; 0 if there is none.
 pub fn latest(slots: &[u32], table: u32, low: u32, held: u32) -> u32
     requires { (held ≤ 256) × (held * 3 ≤ length slots.now) }
-    ensures { result ≡ latestOf table low held slots.now }
+    ensures { result ≡ latest_of table low held slots.now }
 {
     let mut from = held;
     while low < from {

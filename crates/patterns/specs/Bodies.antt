@@ -5,43 +5,43 @@ use Rattle.format.specs.Reading.{pick}
 use Rattle.notation.specs.Tree.{Name}
 use Rattle.notation.specs.Token.{Token}
 use Rattle.notation.specs.Stream.{Symbol, named, stands, enters, leaves, front, back, joins, Stream, ◌▸◌, ended, broken}
-use Rattle.notation.specs.Symbols.{sameSymbol}
-use Rattle.notation.specs.Uses.{says, nothing, definedBy}
+use Rattle.notation.specs.Symbols.{same_symbol}
+use Rattle.notation.specs.Uses.{says, nothing, defined_by}
 
 -- A def's table and the tokens behind its opener, to the end of the text.
 pub record Body : Type 0 where
   pub table : Name
   pub ahead : List Token
 
-unfoldable pub bodiesIn : List Token → List Body
-bodiesIn [] = []
-bodiesIn (t ∷ ts) = map (λ n. record { table = n; ahead = ts }) (says nothing nothing definedBy t) ++ bodiesIn ts
+unfoldable pub bodies_in : List Token → List Body
+bodies_in [] = []
+bodies_in (t ∷ ts) = map (λ n. record { table = n; ahead = ts }) (says nothing nothing defined_by t) ++ bodies_in ts
 
 -- What stands for one where there is none.
-abbrev pub noBody : Body
-noBody = record { table = []; ahead = [] }
+abbrev pub no_body : Body
+no_body = record { table = []; ahead = [] }
 
 -- The symbols are the same one by one, and both streams break at once.
-unfoldable pub sameStreams : Stream → Stream → Bool
-sameStreams (s ▸ r) (t ▸ q) = pick (sameSymbol s t) (sameStreams r q) false
-sameStreams (s ▸ r) ended = false
-sameStreams (s ▸ r) broken = false
-sameStreams ended q = false
-sameStreams broken (t ▸ q) = false
-sameStreams broken ended = false
-sameStreams broken broken = true
+unfoldable pub same_streams : Stream → Stream → Bool
+same_streams (s ▸ r) (t ▸ q) = pick (same_symbol s t) (same_streams r q) false
+same_streams (s ▸ r) ended = false
+same_streams (s ▸ r) broken = false
+same_streams ended q = false
+same_streams broken (t ▸ q) = false
+same_streams broken ended = false
+same_streams broken broken = true
 
 -- How many defs begin in a stream.
-abbrev pub definesOn : Symbol → ℕ
-definesOn (named n) = 0
-definesOn (stands l) = 0
-definesOn (enters o) = length (definedBy o)
-definesOn leaves = 0
-definesOn (front p) = 0
-definesOn (back s) = 0
-definesOn (joins b) = 0
+abbrev pub defines_on : Symbol → ℕ
+defines_on (named n) = 0
+defines_on (stands l) = 0
+defines_on (enters o) = length (defined_by o)
+defines_on leaves = 0
+defines_on (front p) = 0
+defines_on (back s) = 0
+defines_on (joins b) = 0
 
-unfoldable pub defsOn : Stream → ℕ
-defsOn (s ▸ r) = definesOn s + defsOn r
-defsOn ended = 0
-defsOn broken = 0
+unfoldable pub defs_on : Stream → ℕ
+defs_on (s ▸ r) = defines_on s + defs_on r
+defs_on ended = 0
+defs_on broken = 0

@@ -4,12 +4,12 @@
 use Rattle.std.specs.Prelude.{ℕ, zero, suc, List, [], ◌∷◌, eqb, length, drop}
 use Rattle.std.proofs.Math.Option.{Option, some, none}
 use Rattle.format.specs.Reading.{pick}
-use Rattle.notation.specs.Naming.{perOperator, Definition, definitionIn}
+use Rattle.notation.specs.Naming.{per_operator, Definition, definition_in}
 use Rattle.notation.specs.OnePattern.{first_at, matches}
 
 -- How many definitions stand inside one. They are the next ones.
 abbrev pub inside : Definition → ℕ
-inside d = length (perOperator definitionIn d.pattern)
+inside d = length (per_operator definition_in d.pattern)
 
 -- The pass over the rest, which begins at i and of which the next n are passed over.
 unfoldable pub pass : (ds rest : List Definition) (i n : ℕ) → Option ℕ
@@ -19,5 +19,5 @@ pass ds (d ∷ rest) i zero =
     pick (eqb (first_at ds d.table) i) (pass ds rest (suc i) 0) (pick (matches ds d) (pass ds rest (suc i) (inside d)) (some i))
 
 -- The pass from the definition at i on.
-abbrev pub passFrom : List Definition → ℕ → Option ℕ
-passFrom ds i = pass ds (drop i ds) i 0
+abbrev pub pass_from : List Definition → ℕ → Option ℕ
+pass_from ds i = pass ds (drop i ds) i 0

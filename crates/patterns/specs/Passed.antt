@@ -9,25 +9,25 @@ use Rattle.notation.specs.At.{name_at}
 use Rattle.notation.specs.Notation.{Productions}
 use Rattle.notation.specs.Naming.{definitions, member}
 use Rattle.notation.specs.Compile.{place}
-use Rattle.notation.specs.Uses.{defsIn}
-use Rattle.notation.specs.OnePattern.{noDefinition, fault}
-use Rattle.notation.specs.Places.{nameIn, isDef, only, numbered}
+use Rattle.notation.specs.Uses.{defs_in}
+use Rattle.notation.specs.OnePattern.{no_definition, fault}
+use Rattle.notation.specs.Places.{name_in, is_def, only, numbered}
 use Rattle.index.specs.Listed.{names_at, Ascending}
 use Rattle.lexer.specs.declared.token.Token.{Token}
 use Rattle.lexer.specs.Meant.{placed, Lexed}
 use Rattle.patterns.specs.declared.one.Held.{Held}
 use Rattle.patterns.specs.declared.one.Held.TheVariants.{On, Unlike}
-use Rattle.patterns.specs.Pass.{passFrom}
+use Rattle.patterns.specs.Pass.{pass_from}
 
 -- The defs of a text, with what stands for one where there is none, and their tables.
-abbrev pub defsOf : List ℕ → List Lexeme
-defsOf text = only isDef (lexemes text)
+abbrev pub defs_of : List ℕ → List Lexeme
+defs_of text = only is_def (lexemes text)
 
-abbrev pub noLexeme : Lexeme
-noLexeme = record { here = []; token = bad }
+abbrev pub no_lexeme : Lexeme
+no_lexeme = record { here = []; token = bad }
 
 abbrev pub tables_of : List ℕ → List Name
-tables_of text = defsIn (tokens text)
+tables_of text = defs_in (tokens text)
 
 -- What holds of every number of a list.
 abbrev pub Every : (ℕ → Type 0) → List ℕ → Type 0
@@ -37,22 +37,22 @@ Every Q (x ∷ xs) = Q x × Every Q xs
 -- A place is that of the name in a def whose pattern is that of the first def of its table.
 pub record LikeFirst (text : List ℕ) (ps : List Production) (p : ℕ) : Type 0 where
   pub number : ℕ
-  pub one : number < length (defsOf text)
-  pub named : drop p text ≡ nameIn (get_or (defsOf text) number noLexeme).here
+  pub one : number < length (defs_of text)
+  pub named : drop p text ≡ name_in (get_or (defs_of text) number no_lexeme).here
   pub alike :
-      (get_or (definitions ps) number noDefinition).pattern ≡ (get_or (definitions ps) (place (name_at text p) (tables_of text)) noDefinition).pattern
+      (get_or (definitions ps) number no_definition).pattern ≡ (get_or (definitions ps) (place (name_at text p) (tables_of text)) no_definition).pattern
 
 -- The names kept are those of the tables before def number k, each by a def that is like the first; and the pass from there on comes to what the
 -- whole does.
 pub record Known (text : List ℕ) (ps : List Production) (latest : List ℕ) (count k : ℕ) : Type 0 where
   pub tables : (n : Name) → member n (names_at text latest count) ≡ ltb (place n (tables_of text)) k
   pub places : Every (LikeFirst text ps) (take count latest)
-  pub passes : passFrom (definitions ps) k ≡ fault (definitions ps)
+  pub passes : pass_from (definitions ps) k ≡ fault (definitions ps)
 
 -- The pass has come to these defs, and passes over the next `over`.
 pub record Passes (text latest : List ℕ) (count over : ℕ) (rest : List Lexeme) : Type 0 where
   pub number : ℕ
-  pub behind : drop number (defsOf text) ≡ rest
+  pub behind : drop number (defs_of text) ≡ rest
   pub few : count ≤ number
   pub ascending : Ascending (names_at text latest count)
   pub long : length latest ≡ 32768
@@ -70,6 +70,6 @@ pub record Defines (text : List ℕ) (t : Token) : Type 0 where
 
 -- What holding a def to the one before it of its table comes to: the pass goes on behind it, or it is the one at fault.
 abbrev pub Holds : (text latest : List ℕ) → Token → Held → Type 0
-Holds text latest t (On count over) = Passes text latest count over (defsOf (drop t.next text))
+Holds text latest t (On count over) = Passes text latest count over (defs_of (drop t.next text))
 Holds text latest t Unlike =
-    (ps : List Production) → Productions (tokens text) ps → numbered (fault (definitions ps)) (defsOf text) ≡ some (placed text t)
+    (ps : List Production) → Productions (tokens text) ps → numbered (fault (definitions ps)) (defs_of text) ≡ some (placed text t)

@@ -1,6 +1,6 @@
 // Two expressions of a text, walked side by side.
 ghost use Rattle.std.specs.Prelude.{◌≤◌, ◌≡◌, length};
-ghost use Rattle.patterns.specs.Compared.{streamAt, Compares};
+ghost use Rattle.patterns.specs.Compared.{stream_at, Compares};
 
 use crate::contents::same_contents;
 use walker::walk::{inside, next};
@@ -22,7 +22,7 @@ pub fn alike(
     q: usize,
 ) -> Likeness
     requires { (length left.old ≡ 65536) × (length right.old ≡ 65536) × (length text.now ≤ 65535) }
-    ensures { Compares (streamAt text.now p) (streamAt text.now q) result × (length left.new ≡ 65536) × (length right.new ≡ 65536) }
+    ensures { Compares (stream_at text.now p) (stream_at text.now q) result × (length left.new ≡ 65536) × (length right.new ≡ 65536) }
 {
     let mut v = inside(text, p);
     let mut w = inside(text, q);

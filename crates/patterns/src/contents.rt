@@ -2,7 +2,7 @@
 ghost use Rattle.std.specs.Prelude.{◌≡◌, ◌∷◌};
 ghost use Rattle.notation.specs.Lexer.{same};
 ghost use Rattle.notation.specs.At.{name_at};
-ghost use Rattle.notation.specs.Symbols.{bit, sameSymbol};
+ghost use Rattle.notation.specs.Symbols.{bit, same_symbol};
 ghost use Rattle.walker.specs.Walks.{symbol_at};
 ghost use Rattle.patterns.specs.Compared.{Shown};
 
@@ -31,7 +31,7 @@ fn same_switch(text: &[u8], a: Token, b: Token) -> bool
 // Whether two symbols of one number have the same contents: those of quoted text or of a class, a truth and a name, a name, or none.
 pub fn same_contents(text: &[u8], symbol: u8, a: Token, b: Token) -> bool
     requires { Shown text.now symbol a × Shown text.now symbol b }
-    ensures { result ≡ sameSymbol (symbol_at text.now symbol a) (symbol_at text.now symbol b) }
+    ensures { result ≡ same_symbol (symbol_at text.now symbol a) (symbol_at text.now symbol b) }
 {
     if 14 <= symbol {
         return true;

@@ -4,10 +4,10 @@ ghost use Rattle.notation.specs.Tree.{Production};
 ghost use Rattle.notation.specs.Text.{ReadsAs};
 ghost use Rattle.notation.specs.Lexer.{lexemes};
 ghost use Rattle.notation.specs.Naming.{definitions};
-ghost use Rattle.notation.specs.Places.{tokenPlace, unlike};
+ghost use Rattle.notation.specs.Places.{token_place, unlike};
 ghost use Rattle.naming.specs.Found.{found};
 ghost use Rattle.lexer.specs.Meant.{placed};
-ghost use Rattle.patterns.specs.Passed.{defsOf, defines, Passes, Defines, Holds};
+ghost use Rattle.patterns.specs.Passed.{defs_of, defines, Passes, Defines, Holds};
 
 use crate::alike::{Likeness, alike};
 use index::list::keep;
@@ -48,7 +48,7 @@ fn hold(
     over: usize,
     t: Token,
 ) -> Held
-    requires { (length left.old ≡ 65536) × (length right.old ≡ 65536) × (length text.now ≤ 65535) × Defines text.now t × Passes text.now latest.old count over (placed text.now t ∷ defsOf (drop t.next text.now)) }
+    requires { (length left.old ≡ 65536) × (length right.old ≡ 65536) × (length text.now ≤ 65535) × Defines text.now t × Passes text.now latest.old count over (placed text.now t ∷ defs_of (drop t.next text.now)) }
     ensures { Holds text.now latest.new t result × (length left.new ≡ 65536) × (length right.new ≡ 65536) }
 {
     if 0 < over {
@@ -73,7 +73,7 @@ fn hold(
 // found alike, in byte order of the names. So each def is compared at most twice: with the one before it and with the one behind it.
 pub fn one_pattern(text: &[u8]) -> Found
     requires { length text.now ≤ 65535 }
-    ensures { (ps : List Production) → ReadsAs text.now ps → result ≡ found (tokenPlace text.now) (unlike (definitions ps) (lexemes text.now)) }
+    ensures { (ps : List Production) → ReadsAs text.now ps → result ≡ found (token_place text.now) (unlike (definitions ps) (lexemes text.now)) }
 {
     let mut latest = [0u16; 32768];
     let mut left = [0u8; 65536];

@@ -4,7 +4,7 @@ use Rattle.reader.specs.declared.number.Read.{Read}
 use Rattle.reader.specs.declared.number.Read.TheVariants.{Got, Refused}
 use Rattle.reader.specs.declared.reader.Reader.{Reader}
 use Rattle.format.specs.Reading.{Reading, got, fault}
-use Rattle.format.specs.Number.{numberAt}
+use Rattle.format.specs.Number.{number_at}
 
 -- A number and the place after it, or a refusal.
 abbrev pub reading : Read → Reading ℕ
@@ -18,4 +18,4 @@ behind (fault number place) at = at
 
 -- The reader after it has handed out a number: over the same image, and behind the number that stands at its place.
 abbrev pub moved : Reader → Reader
-moved r = record { image = r.image; at = behind (numberAt r.image.now r.at) r.at }
+moved r = record { image = r.image; at = behind (number_at r.image.now r.at) r.at }

@@ -6,12 +6,12 @@ use Rattle.reader.specs.declared.number.Read.{Read}
 use Rattle.reader.specs.declared.number.Read.TheVariants.{Got, Refused}
 use Rattle.reader.specs.declared.reader.Reader.{Reader}
 use Rattle.format.specs.Reading.{Reading}
-use Rattle.format.specs.Number.{numberAt}
+use Rattle.format.specs.Number.{number_at}
 use Rattle.reader.specs.Meant.{reading, behind, moved}
 
 -- `number_from`, `number_at` and the groups below it: each promises `reading r ≡ x`.
-pub one-reading : (r s : Read) {x : Reading ℕ} → reading r ≡ x → reading s ≡ x → r ≡ s
-one-reading r s e f = same r s (e ∙ sym f)
+pub one_reading : (r s : Read) {x : Reading ℕ} → reading r ≡ x → reading s ≡ x → r ≡ s
+one_reading r s e f = same r s (e ∙ sym f)
   where
     same : (r s : Read) → reading r ≡ reading s → r ≡ s
     same (Got m) (Got n) e =
@@ -30,19 +30,19 @@ one_reader image at r r' e f =
     λ i. record { image = same i; at = place i }
 
 -- `next`: what it hands out, and the reader after it, after a refusal too.
-pub one-next :
-    (r : Reader) {n n' : Read} {after after' : Reader} → (reading n ≡ numberAt r.image.now r.at) × (after ≡ moved r)
-    → (reading n' ≡ numberAt r.image.now r.at) × (after' ≡ moved r) → (n ≡ n') × (after ≡ after')
-one-next r {n} {n'} e f = (one-reading n n' e.0 f.0, e.1 ∙ sym f.1)
+pub one_next :
+    (r : Reader) {n n' : Read} {after after' : Reader} → (reading n ≡ number_at r.image.now r.at) × (after ≡ moved r)
+    → (reading n' ≡ number_at r.image.now r.at) × (after' ≡ moved r) → (n ≡ n') × (after ≡ after')
+one_next r {n} {n'} e f = (one_reading n n' e.0 f.0, e.1 ∙ sym f.1)
 
 -- `stands`
 pub one_place : (r : Reader) (n n' : ℕ) → n ≡ r.at → n' ≡ r.at → n ≡ n'
 one_place r n n' e f = e ∙ sym f
 
 -- `after`
-pub one-after : (read : Read) (at n n' : ℕ) → n ≡ behind (reading read) at → n' ≡ behind (reading read) at → n ≡ n'
-one-after read at n n' e f = e ∙ sym f
+pub one_after : (read : Read) (at n n' : ℕ) → n ≡ behind (reading read) at → n' ≡ behind (reading read) at → n ≡ n'
+one_after read at n n' e f = e ∙ sym f
 
 -- `wide`
-pub one-wide : (b r r' : ℕ) → (r ≡ b) × (r ≤ 255) → (r' ≡ b) × (r' ≤ 255) → r ≡ r'
-one-wide b r r' e f = e.0 ∙ sym f.0
+pub one_wide : (b r r' : ℕ) → (r ≡ b) × (r ≤ 255) → (r' ≡ b) × (r' ≤ 255) → r ≡ r'
+one_wide b r r' e f = e.0 ∙ sym f.0

@@ -1,6 +1,6 @@
 // The numbers of an image: how one is read.
 ghost use Rattle.std.specs.Prelude.{◌≡◌, ◌+◌, ◌<◌, ◌≤◌, drop, length};
-ghost use Rattle.format.specs.Number.{numberAt, second, third};
+ghost use Rattle.format.specs.Number.{number_at, second, third};
 ghost use Rattle.reader.specs.Meant.{reading};
 
 // A number and the place after it. Its own place is the one that it was asked for at: where the reader stood.
@@ -26,7 +26,7 @@ pub enum Read {
 
 // The number at a place: groups of seven bits, lowest group first, at most three bytes.
 pub(crate) fn number_at(image: &[u8], at: usize) -> Read
-    ensures { reading result ≡ numberAt image.now at }
+    ensures { reading result ≡ number_at image.now at }
 {
     let end = image.len();
     if end <= at {

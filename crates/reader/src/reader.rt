@@ -1,7 +1,7 @@
 // A reader stands over an image and hands out one number at a time. `next` takes it apart and leaves the work to `number_at` and `after`, which
 // know of no reader.
 ghost use Rattle.std.specs.Prelude.{◌≡◌};
-ghost use Rattle.format.specs.Number.{numberAt};
+ghost use Rattle.format.specs.Number.{number_at};
 ghost use Rattle.reader.specs.Meant.{reading, behind, moved};
 
 use crate::number::{Read, number_at};
@@ -29,7 +29,7 @@ pub fn stands<'a>(r: Reader<'a>) -> usize
 
 // The number at the reader's place. The reader then stands behind it, or where it stood if it is refused.
 pub fn next<'s, 'a>(r: &'s mut Reader<'a>) -> Read
-    ensures { (reading result ≡ numberAt r.old.image.now r.old.at) × (r.new ≡ moved r.old) }
+    ensures { (reading result ≡ number_at r.old.image.now r.old.at) × (r.new ≡ moved r.old) }
 {
     let read = number_at(r.image, r.at);
     r.at = after(read, r.at);
@@ -48,7 +48,7 @@ fn after(read: Read, at: usize) -> usize
 
 // The number at a place of an image, handed out by a reader that is set there.
 pub fn number_from(image: &[u8], at: usize) -> Read
-    ensures { reading result ≡ numberAt image.now at }
+    ensures { reading result ≡ number_at image.now at }
 {
     let mut r = over(image, at);
     next(&mut r)

@@ -9,5 +9,5 @@ abbrev pub charged : Tally → (depth : ℕ) → Tally
 charged t depth = record { steps = t.steps + 1; depth = max t.depth depth }
 
 -- "A round adds no depth": where nothing is entered that is deeper than 0, the depth stays.
-pub later-round : (spent deepest : ℕ) → ◌≡◌ {A = Tally} (record { steps = spent + 1; depth = max deepest 0 }) (record { steps = spent + 1; depth = deepest })
-later-round spent deepest = λ i. record { steps = spent + 1; depth = max-zero deepest i }
+pub later_round : (spent deepest : ℕ) → ◌≡◌ {A = Tally} (record { steps = spent + 1; depth = max deepest 0 }) (record { steps = spent + 1; depth = deepest })
+later_round spent deepest = λ i. record { steps = spent + 1; depth = max-zero deepest i }

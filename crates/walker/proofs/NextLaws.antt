@@ -12,23 +12,23 @@ use Rattle.lexer.specs.declared.token.Token.{Token}
 use Rattle.lexer.specs.Meant.{Lexed}
 use Rattle.walker.specs.declared.walk.Walk.{Walk}
 use Rattle.walker.specs.declared.walk.Step.{Step}
-use Rattle.walker.specs.Acts.{entry_of, latest, pushedBy, closing, Shifts}
-use Rattle.walker.specs.Walks.{rest, Walks, toGo, plain_of, symbol_at, Passing, Gives, Nexts}
-use Rattle.walker.specs.Steps.{shownAs, Closes, Takes, Acted, closes, takes, ends, breaks, Steps}
-use Rattle.walker.proofs.ActLaws.{Entry, a-bracket, an-angle, a-choice, a-row, a-prefix, entry, pushes, bracket-closed}
-use Rattle.walker.proofs.WalkLaws.{Which, Shows, nothing, one, rest-comes, rest-takes, rest-closes, closes-number, takes-shows, walks-takes, falls-takes, walks-closes, falls-closes}
+use Rattle.walker.specs.Acts.{entry_of, latest, pushed_by, closing, Shifts}
+use Rattle.walker.specs.Walks.{rest, Walks, to_go, plain_of, symbol_at, Passing, Gives, Nexts}
+use Rattle.walker.specs.Steps.{shown_as, Closes, Takes, Acted, closes, takes, ends, breaks, Steps}
+use Rattle.walker.proofs.ActLaws.{Entry, a_bracket, an_angle, a_choice, a_row, a_prefix, entry, pushes, bracket_closed}
+use Rattle.walker.proofs.WalkLaws.{Which, Shows, nothing, one, rest_comes, rest_takes, rest_closes, closes_number, takes_shows, walks_takes, falls_takes, walks_closes, falls_closes}
 
 -- ## Symbols
 
 -- What closing puts out is told by its number.
-closed-symbol : {b : ℕ} {p : Pending} → Entry b p → 2 ≤ b → (text : List ℕ) (t : Token) → symbol_at text (Symbols.kind (closing p)) t ≡ closing p
+closed_symbol : {b : ℕ} {p : Pending} → Entry b p → 2 ≤ b → (text : List ℕ) (t : Token) → symbol_at text (Symbols.kind (closing p)) t ≡ closing p
 unfolding symbol_at plain_of closing
-closed-symbol a-bracket l text t = absurd (omega arith)
-closed-symbol an-angle l text t = absurd (omega arith)
-closed-symbol a-choice l text t = refl
-closed-symbol a-row l text t = refl
-closed-symbol (a-prefix {p = and}) l text t = refl
-closed-symbol (a-prefix {p = not}) l text t = refl
+closed_symbol a_bracket l text t = absurd (omega arith)
+closed_symbol an_angle l text t = absurd (omega arith)
+closed_symbol a_choice l text t = refl
+closed_symbol a_row l text t = refl
+closed_symbol (a_prefix {p = and}) l text t = refl
+closed_symbol (a_prefix {p = not}) l text t = refl
 
 -- ## Passing over
 
@@ -38,20 +38,20 @@ stays stack W = record { same = refl; walks = W; less = omega arith; long = refl
 
 module _ {text was stack now : List ℕ} {w₀ w : Walk} {s : Step} (P : Passing text was stack w₀ w) where
   -- Nothing was put out.
-  pub passed : s.symbol ≡ 30 → Steps text stack now w s → Passing text was now w₀ s.walk × (toGo text s.walk < toGo text w)
+  pub passed : s.symbol ≡ 30 → Steps text stack now w s → Passing text was now w₀ s.walk × (to_go text s.walk < to_go text w)
   unfolding ◌▸▸◌
   passed e S = go S.acted
     where
-      go : Acted text stack now w s → Passing text was now w₀ s.walk × (toGo text s.walk < toGo text w)
-      go (closes C) = absurd (omega (arith, closes-number P.walks C))
+      go : Acted text stack now w s → Passing text was now w₀ s.walk × (to_go text s.walk < to_go text w)
+      go (closes C) = absurd (omega (arith, closes_number P.walks C))
       go (takes T) = (
         record {
-          same = P.same ∙ rest-takes P.walks T ∙ rw e;
-          walks = walks-takes P.walks T;
-          less = omega (arith, P.less, falls-takes P.walks T);
+          same = P.same ∙ rest_takes P.walks T ∙ rw e;
+          walks = walks_takes P.walks T;
+          less = omega (arith, P.less, falls_takes P.walks T);
           long = S.long ∙ P.long;
         },
-        falls-takes P.walks T,
+        falls_takes P.walks T,
       )
       go (ends q c) = absurd (omega arith)
       go (breaks q r c) = absurd (omega arith)
@@ -76,38 +76,38 @@ module _ {text was stack now : List ℕ} {w₀ w : Walk} {s : Step} (P : Passing
         long = S.long ∙ P.long;
       }
 
-      closing-gives : (C : Closes text stack now w s) → Gives text stack now w s
-      closing-gives C =
+      closing_gives : (C : Closes text stack now w s) → Gives text stack now w s
+      closing_gives C =
           let E = entry (latest w.height stack) in
-          let q : symbol_at text s.symbol s.token ≡ closing (entry_of (latest w.height stack)) = rw C.symbol (closed-symbol E C.pops.no-bracket text s.token) in
+          let q : symbol_at text s.symbol s.token ≡ closing (entry_of (latest w.height stack)) = rw C.symbol (closed_symbol E C.pops.no_bracket text s.token) in
           record {
-            goes = rw q (rest-closes P.walks C);
-            taken = λ l. absurd (omega (arith, closes-number P.walks C));
-            behind = λ l. absurd (omega (arith, closes-number P.walks C));
-            walks = walks-closes P.walks C;
-            falls = falls-closes P.walks C;
+            goes = rw q (rest_closes P.walks C);
+            taken = λ l. absurd (omega (arith, closes_number P.walks C));
+            behind = λ l. absurd (omega (arith, closes_number P.walks C));
+            walks = walks_closes P.walks C;
+            falls = falls_closes P.walks C;
           }
 
-      taking-gives : (T : Takes text stack now w s) → Which w.token.kind w.token.symbol (shownAs w.token.kind w.token.symbol) → Gives text stack now w s
-      taking-gives T k = record {
-        goes = rest-takes P.walks T ∙ rw (ne_eqb s.symbol 30 n, T.token);
+      taking_gives : (T : Takes text stack now w s) → Which w.token.kind w.token.symbol (shown_as w.token.kind w.token.symbol) → Gives text stack now w s
+      taking_gives T k = record {
+        goes = rest_takes P.walks T ∙ rw (ne_eqb s.symbol 30 n, T.token);
         taken = λ l. rw (T.token, T.symbol) (record { at = P.walks.at; lexed = P.walks.lexed; head = k.0; leaf = k.1; opener = k.2; closer = k.3 });
         behind = λ l. rw T.token T.lexed;
-        walks = walks-takes P.walks T;
-        falls = falls-takes P.walks T;
+        walks = walks_takes P.walks T;
+        falls = falls_takes P.walks T;
       }
 
       taken : (T : Takes text stack now w s) → Shows w.token.kind w.token.symbol → Nexts text was now w₀ s
       taken T (nothing k) = absurd (n (T.symbol ∙ k))
-      taken T (one l k) = gives (taking-gives T k) (omega (arith, T.symbol))
+      taken T (one l k) = gives (taking_gives T k) (omega (arith, T.symbol))
 
       go : Acted text stack now w s → Nexts text was now w₀ s
-      go (closes C) = gives (closing-gives C) (closes-number P.walks C).1
-      go (takes T) = taken T (takes-shows P.walks T)
+      go (closes C) = gives (closing_gives C) (closes_number P.walks C).1
+      go (takes T) = taken T (takes_shows P.walks T)
       go (ends q c) = record {
         numbers = omega arith;
         gives = λ h. absurd (omega arith);
-        ends = λ z. P.same ∙ rest-comes stack P.walks c;
+        ends = λ z. P.same ∙ rest_comes stack P.walks c;
         breaks = λ z. absurd (omega arith);
         long = S.long ∙ P.long;
       }
@@ -115,7 +115,7 @@ module _ {text was stack now : List ℕ} {w₀ w : Walk} {s : Step} (P : Passing
         numbers = omega arith;
         gives = λ h. absurd (omega arith);
         ends = λ z. absurd (omega arith);
-        breaks = λ z. P.same ∙ rest-comes stack P.walks c;
+        breaks = λ z. P.same ∙ rest_comes stack P.walks c;
         long = S.long ∙ P.long;
       }
 
@@ -127,25 +127,25 @@ along P Q = record { same = P.same ∙ Q.same; walks = Q.walks; less = omega (ar
 
 -- A token is taken that puts out nothing; and such a token is a `(` where an item must begin, and a `)` behind a primary, where it closes a `(`.
 module _ {text was stack now : List ℕ} {w₀ w : Walk} (P : Passing text was stack w₀ w) where
-  over-token :
-      (m g : ℕ) (u : Token) → Shifts w.mode w.height stack now w.token.kind m g → shownAs w.token.kind w.token.symbol ≡ 30
+  over_token :
+      (m g : ℕ) (u : Token) → Shifts w.mode w.height stack now w.token.kind m g → shown_as w.token.kind w.token.symbol ≡ 30
       → Lexed text w.token.next u → length now ≡ length stack
-      → Passing text was now w₀ (record { mode = m; height = g; token = u }) × (toGo text (record { mode = m; height = g; token = u }) < toGo text w)
-  over-token m g u S e L l =
+      → Passing text was now w₀ (record { mode = m; height = g; token = u }) × (to_go text (record { mode = m; height = g; token = u }) < to_go text w)
+  over_token m g u S e L l =
       passed {s = record { symbol = 30; token = w.token; walk = record { mode = m; height = g; token = u } }} P refl
       (record { acted = takes (record { shifts = S; symbol = sym e; token = refl; lexed = L }); long = l })
 
 module _ {text was stack : List ℕ} {w₀ : Walk} {m : ℕ} (h : ℕ) (t u : Token) (L : Lexed text t.next u) where
-  pub over-open :
+  pub over_open :
       Passing text was stack w₀ (record { mode = m; height = h; token = t }) → m ≡ 1 → t.kind ≡ 7 → h < length stack
       → Passing text was (set stack h 0) w₀ (record { mode = m; height = h + 1; token = u })
-      × (toGo text (record { mode = m; height = h + 1; token = u }) < toGo text (record { mode = m; height = h; token = t }))
-  unfolding entry_of pushedBy shownAs
-  over-open P q e i = over-token P m (h + 1) u (rw q (pushes {k = t.kind} h stack 0 i (omega arith) (omega arith) (rw e)).acts) (rw e) L (length-set stack h 0)
+      × (to_go text (record { mode = m; height = h + 1; token = u }) < to_go text (record { mode = m; height = h; token = t }))
+  unfolding entry_of pushed_by shown_as
+  over_open P q e i = over_token P m (h + 1) u (rw q (pushes {k = t.kind} h stack 0 i (omega arith) (omega arith) (rw e)).acts) (rw e) L (length-set stack h 0)
 
-  pub over-shut :
+  pub over_shut :
       Passing text was stack w₀ (record { mode = m; height = h; token = t }) → m ≡ 2 → t.kind ≡ 3 → 1 ≤ h → latest h stack ≡ 0
       → Passing text was stack w₀ (record { mode = m; height = h - 1; token = u })
-      × (toGo text (record { mode = m; height = h - 1; token = u }) < toGo text (record { mode = m; height = h; token = t }))
-  unfolding shownAs
-  over-shut P q e s z = over-token P m (h - 1) u (rw q (bracket-closed {k = t.kind} h stack s (omega arith) (omega arith)).acts) (rw e) L refl
+      × (to_go text (record { mode = m; height = h - 1; token = u }) < to_go text (record { mode = m; height = h; token = t }))
+  unfolding shown_as
+  over_shut P q e s z = over_token P m (h - 1) u (rw q (bracket_closed {k = t.kind} h stack s (omega arith) (omega arith)).acts) (rw e) L refl

@@ -16,17 +16,17 @@ use Rattle.notation.specs.Lexer.{lexemes}
 use Rattle.notation.specs.Stream.{Symbol, back, Stream, ◌▸◌, ◌▸▸◌, ended, broken, Pending, Mode}
 use Rattle.notation.specs.Symbols as Symbols
 use Rattle.lexer.specs.declared.token.Token.{Token}
-use Rattle.lexer.specs.Meant.{suffixOf, meant, placed, ahead, Numbers, Lexed}
+use Rattle.lexer.specs.Meant.{suffix_of, meant, placed, ahead, Numbers, Lexed}
 use Rattle.walker.specs.contracts.act.Act.{the_type}
 use Rattle.walker.specs.declared.act.Act.{Act}
 use Rattle.walker.specs.declared.act.Act.TheVariants.{Pop, Shift, Ended, Broken}
 use Rattle.walker.specs.declared.walk.Walk.{Walk}
 use Rattle.walker.specs.declared.walk.Step.{Step}
 use Rattle.walker.specs.Acts.{kind_of, kind, mode_of, entry_of, opened, latest, closing, puts, Pops, Shifts, ComesTo, Acts}
-use Rattle.walker.specs.Walks.{rest, Walks, toGo, plain_of, symbol_at, Begins}
-use Rattle.walker.specs.SymbolLaws.{by-test, symbol-leaf, symbol-opener, symbol-plain}
-use Rattle.walker.specs.Steps.{shownAs, Closes, Takes}
-use Rattle.walker.proofs.ActLaws.{Is, is-none, is-head, is-closes, is_right, is-slash, is_leaf, is-opens, is-left, is-and, is-not, is-after, is-bad, of-kind, latest-some, Entry, a-bracket, an-angle, a-choice, a-row, a-prefix, entry}
+use Rattle.walker.specs.Walks.{rest, Walks, to_go, plain_of, symbol_at, Begins}
+use Rattle.walker.specs.SymbolLaws.{by_test, symbol_leaf, symbol_opener, symbol_plain}
+use Rattle.walker.specs.Steps.{shown_as, Closes, Takes}
+use Rattle.walker.proofs.ActLaws.{Is, is_none_lem, is_head, is_closes, is_right, is_slash, is_leaf, is_opens, is_left, is_and, is_not, is_after, is_bad, of_kind, latest_some, Entry, a_bracket, an_angle, a_choice, a_row, a_prefix, entry}
 
 -- ## Acts by their tag
 
@@ -52,45 +52,45 @@ module _ {mode h k : ℕ} {was now : List ℕ} where
   broke Ended t A = absurd (omega arith)
   broke Broken t A = A.acts
 
-  pub popped-byte : Pops mode h was now k → get_or now (h - 1) 0 ≡ latest h was
-  popped-byte P = rw P.same (latest-some h was P.some)
+  pub popped_byte : Pops mode h was now k → get_or now (h - 1) 0 ≡ latest h was
+  popped_byte P = rw P.same (latest_some h was P.some)
 
 -- ## The code's tokens
 
-pub kind-meant : (text : List ℕ) (t : Token) → 1 ≤ t.kind → t.kind ≤ 11 → kind_of (meant text t) ≡ t.kind
+pub kind_meant : (text : List ℕ) (t : Token) → 1 ≤ t.kind → t.kind ≤ 11 → kind_of (meant text t) ≡ t.kind
 unfolding kind_of meant
-kind-meant text t l m =
+kind_meant text t l m =
     let k = t.kind in
-    by-test kind_of k 1 l sym λ l. by-test kind_of k 2 l sym λ l. by-test kind_of k 3 l sym λ l. by-test kind_of k 4 l sym λ l.
-    by-test kind_of k 5 l sym λ l. by-test kind_of k 6 l sym λ l. by-test kind_of k 7 l sym λ l. by-test kind_of k 8 l sym λ l.
-    by-test kind_of k 9 l sym λ l. by-test kind_of k 10 l sym λ l. omega arith
+    by_test kind_of k 1 l sym λ l. by_test kind_of k 2 l sym λ l. by_test kind_of k 3 l sym λ l. by_test kind_of k 4 l sym λ l.
+    by_test kind_of k 5 l sym λ l. by_test kind_of k 6 l sym λ l. by_test kind_of k 7 l sym λ l. by_test kind_of k 8 l sym λ l.
+    by_test kind_of k 9 l sym λ l. by_test kind_of k 10 l sym λ l. omega arith
 
 -- What a token puts out by the number of its symbol, 30 being none.
 abbrev pub out : List ℕ → ℕ → Token → List Symbol
 out text n t = pick (eqb n 30) [] (symbol_at text n t ∷ [])
 
-suffix-plain : (n : ℕ) → 17 ≤ n → n ≤ 19 → plain_of n ≡ back (suffixOf n)
-unfolding suffixOf plain_of
-suffix-plain n l m =
-    sym (by-test back n 17 l (λ e. rw e) λ l. by-test back n 18 l (λ e. rw e) λ l. let e : n ≡ 19 = omega arith in rw e)
+suffix_plain : (n : ℕ) → 17 ≤ n → n ≤ 19 → plain_of n ≡ back (suffix_of n)
+unfolding suffix_of plain_of
+suffix_plain n l m =
+    sym (by_test back n 17 l (λ e. rw e) λ l. by_test back n 18 l (λ e. rw e) λ l. let e : n ≡ 19 = omega arith in rw e)
 
 module _ (text : List ℕ) (t : Token) where
-  silent : shownAs t.kind t.symbol ≡ 30 → [] ≡ out text (shownAs t.kind t.symbol) t
+  silent : shown_as t.kind t.symbol ≡ 30 → [] ≡ out text (shown_as t.kind t.symbol) t
   silent e = rw e
 
-  loud : (n : ℕ) {x : Symbol} → shownAs t.kind t.symbol ≡ n → n ≤ 21 → symbol_at text n t ≡ x → x ∷ [] ≡ out text (shownAs t.kind t.symbol) t
+  loud : (n : ℕ) {x : Symbol} → shown_as t.kind t.symbol ≡ n → n ≤ 21 → symbol_at text n t ≡ x → x ∷ [] ≡ out text (shown_as t.kind t.symbol) t
   loud n e l q = rw (e, ne_eqb n 30 (λ z. omega arith), q)
 
-  puts-meant : Numbers t.kind t.symbol → 1 ≤ t.kind → puts (meant text t) ≡ out text (shownAs t.kind t.symbol) t
-  unfolding puts meant shownAs symbol_at plain_of
-  puts-meant ns l =
+  puts_meant : Numbers t.kind t.symbol → 1 ≤ t.kind → puts (meant text t) ≡ out text (shown_as t.kind t.symbol) t
+  unfolding puts meant shown_as symbol_at plain_of
+  puts_meant ns l =
       let k = t.kind in let n = t.symbol in
-      by-test puts k 1 l (λ e. loud 0 (rw e) (omega arith) refl) λ l. by-test puts k 2 l (λ e. loud 14 (rw e) (omega arith) refl) λ l.
-      by-test puts k 3 l (λ e. silent (rw e)) λ l. by-test puts k 4 l (λ e. silent (rw e)) λ l.
-      by-test puts k 5 l (λ e. let h = ns.1 e in loud n (rw e) (omega arith) (symbol-leaf text n t h.0 h.1)) λ l.
-      by-test puts k 6 l (λ e. let h = ns.2 e in loud n (rw e) (omega arith) (symbol-opener text n t h.0 h.1)) λ l.
-      by-test puts k 7 l (λ e. silent (rw e)) λ l. by-test puts k 8 l (λ e. silent (rw e)) λ l. by-test puts k 9 l (λ e. silent (rw e)) λ l.
-      by-test puts k 10 l (λ e. let h = ns.3 e in loud n (rw e) (omega arith) (symbol-plain text n t (omega arith) ∙ suffix-plain n h.0 h.1)) λ l.
+      by_test puts k 1 l (λ e. loud 0 (rw e) (omega arith) refl) λ l. by_test puts k 2 l (λ e. loud 14 (rw e) (omega arith) refl) λ l.
+      by_test puts k 3 l (λ e. silent (rw e)) λ l. by_test puts k 4 l (λ e. silent (rw e)) λ l.
+      by_test puts k 5 l (λ e. let h = ns.1 e in loud n (rw e) (omega arith) (symbol_leaf text n t h.0 h.1)) λ l.
+      by_test puts k 6 l (λ e. let h = ns.2 e in loud n (rw e) (omega arith) (symbol_opener text n t h.0 h.1)) λ l.
+      by_test puts k 7 l (λ e. silent (rw e)) λ l. by_test puts k 8 l (λ e. silent (rw e)) λ l. by_test puts k 9 l (λ e. silent (rw e)) λ l.
+      by_test puts k 10 l (λ e. let h = ns.3 e in loud n (rw e) (omega arith) (symbol_plain text n t (omega arith) ∙ suffix_plain n h.0 h.1)) λ l.
       let e : k ≡ 11 = omega arith in silent (rw e)
 
 -- The number tells the kind.
@@ -99,33 +99,33 @@ Which k n number =
     (number ≡ 0 → k ≡ 1) × (1 ≤ number → number ≤ 9 → (k ≡ 5) × (n ≡ number)) × (10 ≤ number → number ≤ 13 → (k ≡ 6) × (n ≡ number)) × (number ≡ 14 → k ≡ 2)
 
 pub data Shows (k n : ℕ) : Type 0 where
-  nothing : shownAs k n ≡ 30 → Shows k n
-  one : shownAs k n ≤ 19 → Which k n (shownAs k n) → Shows k n
+  nothing : shown_as k n ≡ 30 → Shows k n
+  one : shown_as k n ≤ 19 → Which k n (shown_as k n) → Shows k n
 
 shows : {k : ℕ} {ts : List N.Token} → Is k ts → (n : ℕ) → Numbers k n → Shows k n
-unfolding shownAs
-shows is-none n ns = nothing refl
-shows is-head n ns = one (omega arith) (omega arith)
-shows is-closes n ns = one (omega arith) (omega arith)
+unfolding shown_as
+shows is_none_lem n ns = nothing refl
+shows is_head n ns = one (omega arith) (omega arith)
+shows is_closes n ns = one (omega arith) (omega arith)
 shows is_right n ns = nothing refl
-shows is-slash n ns = nothing refl
+shows is_slash n ns = nothing refl
 shows is_leaf n ns = let h = ns.1 refl in one (omega arith) (omega arith)
-shows is-opens n ns = let h = ns.2 refl in one (omega arith) (omega arith)
-shows is-left n ns = nothing refl
-shows is-and n ns = nothing refl
-shows is-not n ns = nothing refl
-shows is-after n ns = let h = ns.3 refl in one (omega arith) (omega arith)
-shows is-bad n ns = nothing refl
+shows is_opens n ns = let h = ns.2 refl in one (omega arith) (omega arith)
+shows is_left n ns = nothing refl
+shows is_and n ns = nothing refl
+shows is_not n ns = nothing refl
+shows is_after n ns = let h = ns.3 refl in one (omega arith) (omega arith)
+shows is_bad n ns = nothing refl
 
 -- What closing puts out has another number.
-closed-number : {b : ℕ} {p : Pending} → Entry b p → 2 ≤ b → (15 ≤ Symbols.kind (closing p)) × (Symbols.kind (closing p) ≤ 21)
+closed_number : {b : ℕ} {p : Pending} → Entry b p → 2 ≤ b → (15 ≤ Symbols.kind (closing p)) × (Symbols.kind (closing p) ≤ 21)
 unfolding closing
-closed-number a-bracket l = absurd (omega arith)
-closed-number an-angle l = absurd (omega arith)
-closed-number a-choice l = omega arith
-closed-number a-row l = omega arith
-closed-number (a-prefix {p = and}) l = omega arith
-closed-number (a-prefix {p = not}) l = omega arith
+closed_number a_bracket l = absurd (omega arith)
+closed_number an_angle l = absurd (omega arith)
+closed_number a_choice l = omega arith
+closed_number a_row l = omega arith
+closed_number (a_prefix {p = and}) l = omega arith
+closed_number (a_prefix {p = not}) l = omega arith
 
 -- ## The lexemes from a token on
 
@@ -135,27 +135,27 @@ module _ (text : List ℕ) (t : Token) where
   ahead_none e = rw e
 
   -- The token, and some behind it.
-  pub ahead-some : 1 ≤ t.kind → ahead text t ≡ placed text t ∷ pick (eqb t.kind 11) [] (lexemes (drop t.next text))
+  pub ahead_some : 1 ≤ t.kind → ahead text t ≡ placed text t ∷ pick (eqb t.kind 11) [] (lexemes (drop t.next text))
   unfolding ahead
-  ahead-some l = rw (ne_eqb t.kind 0 (λ z. omega arith))
+  ahead_some l = rw (ne_eqb t.kind 0 (λ z. omega arith))
 
-  pub ahead-token : 1 ≤ t.kind → t.kind ≤ 10 → ahead text t ≡ placed text t ∷ lexemes (drop t.next text)
-  ahead-token l m = ahead-some l ∙ rw (ne_eqb t.kind 11 (λ z. omega arith))
+  pub ahead_token : 1 ≤ t.kind → t.kind ≤ 10 → ahead text t ≡ placed text t ∷ lexemes (drop t.next text)
+  ahead_token l m = ahead_some l ∙ rw (ne_eqb t.kind 11 (λ z. omega arith))
 
-  pub kind-ahead : t.kind ≤ 11 → kind (bare (ahead text t)) ≡ t.kind
-  kind-ahead m = go (eqb t.kind 0) refl
+  pub kind_ahead : t.kind ≤ 11 → kind (bare (ahead text t)) ≡ t.kind
+  kind_ahead m = go (eqb t.kind 0) refl
     where
       go : (b : Bool) → eqb t.kind 0 ≡ b → kind (bare (ahead text t)) ≡ t.kind
       go true e = rw (ahead_none (eqb-true t.kind 0 e)) (sym (eqb-true t.kind 0 e))
       go false e =
           let n = eqb-false t.kind 0 e in
-          let l : 1 ≤ t.kind = omega arith in rw (ahead-some l) (kind-meant text t l m)
+          let l : 1 ≤ t.kind = omega arith in rw (ahead_some l) (kind_meant text t l m)
 
 -- ## What an act leaves to come
 
-pub rest-comes :
+pub rest_comes :
     {text : List ℕ} {w : Walk} (was : List ℕ) {r : Stream} → Walks text w → ComesTo w.mode w.height was w.token.kind r → rest text was w ≡ r
-rest-comes {text} {w} was W c = c (bare (ahead text w.token)) (kind-ahead text w.token W.lexed.numbers.0)
+rest_comes {text} {w} was W c = c (bare (ahead text w.token)) (kind_ahead text w.token W.lexed.numbers.0)
 
 pub begins :
     (text : List ℕ) (at mode : ℕ) {m : Mode} (t : Token) → mode_of mode ≡ m → mode ≤ 1 → Lexed text at t
@@ -170,52 +170,52 @@ begins text at mode {m} t e l L = record {
 }
 
 module _ {text was now : List ℕ} {w : Walk} {s : Step} (W : Walks text w) where
-  pub rest-takes : Takes text was now w s → rest text was w ≡ (out text s.symbol w.token ▸▸ rest text now s.walk)
-  rest-takes T =
+  pub rest_takes : Takes text was now w s → rest text was w ≡ (out text s.symbol w.token ▸▸ rest text now s.walk)
+  rest_takes T =
       let t = w.token in let h = T.shifts.taken in
-      rw (ahead-token text t h.0 h.1, ← T.lexed.goes, T.symbol, ← puts-meant text t W.lexed.numbers h.0)
-      (T.shifts.goes (meant text t) (bare (lexemes (drop t.next text))) (kind-meant text t h.0 (omega arith)))
+      rw (ahead_token text t h.0 h.1, ← T.lexed.goes, T.symbol, ← puts_meant text t W.lexed.numbers h.0)
+      (T.shifts.goes (meant text t) (bare (lexemes (drop t.next text))) (kind_meant text t h.0 (omega arith)))
 
-  pub rest-closes : Closes text was now w s → rest text was w ≡ closing (entry_of (latest w.height was)) ▸ rest text now s.walk
+  pub rest_closes : Closes text was now w s → rest text was w ≡ closing (entry_of (latest w.height was)) ▸ rest text now s.walk
   unfolding mode_of
-  rest-closes C =
-      rw (C.walk, C.pops.follows, C.pops.same) (C.pops.goes (bare (ahead text w.token)) (kind-ahead text w.token W.lexed.numbers.0))
+  rest_closes C =
+      rw (C.walk, C.pops.follows, C.pops.same) (C.pops.goes (bare (ahead text w.token)) (kind_ahead text w.token W.lexed.numbers.0))
 
   -- Which numbers come out of it.
-  pub closes-number : Closes text was now w s → (15 ≤ s.symbol) × (s.symbol ≤ 21)
-  closes-number C = rw C.symbol (closed-number (entry (latest w.height was)) C.pops.no-bracket)
+  pub closes_number : Closes text was now w s → (15 ≤ s.symbol) × (s.symbol ≤ 21)
+  closes_number C = rw C.symbol (closed_number (entry (latest w.height was)) C.pops.no_bracket)
 
-  pub takes-shows : Takes text was now w s → Shows w.token.kind w.token.symbol
-  takes-shows T =
+  pub takes_shows : Takes text was now w s → Shows w.token.kind w.token.symbol
+  takes_shows T =
       let t = w.token in
-      shows (of-kind (bare (ahead text t)) t.kind (kind-ahead text t W.lexed.numbers.0)) t.symbol W.lexed.numbers
+      shows (of_kind (bare (ahead text t)) t.kind (kind_ahead text t W.lexed.numbers.0)) t.symbol W.lexed.numbers
 
-  pub takes-number : Takes text was now w s → s.symbol ≤ 30
-  takes-number T = go (takes-shows T)
+  pub takes_number : Takes text was now w s → s.symbol ≤ 30
+  takes_number T = go (takes_shows T)
     where
       go : Shows w.token.kind w.token.symbol → s.symbol ≤ 30
       go (nothing k) = omega (arith, T.symbol)
       go (one l k) = omega (arith, T.symbol)
 
   -- A walk goes on, and has less to go.
-  pub walks-takes : Takes text was now w s → Walks text s.walk
-  walks-takes T =
+  pub walks_takes : Takes text was now w s → Walks text s.walk
+  walks_takes T =
       let t = w.token in let h = T.shifts.taken in let m : t.kind ≤ 10 = h.1 in
       record {
         at = t.next;
         lexed = T.lexed;
-        mode = T.shifts.mode-next.1;
+        mode = T.shifts.mode_next.1;
         low =
             omega (arith, T.shifts.low, W.low, W.lexed.longer h.0 h.1, T.lexed.onward (W.lexed.within h.0 h.1));
       }
 
-  pub falls-takes : Takes text was now w s → toGo text s.walk < toGo text w
-  falls-takes T =
+  pub falls_takes : Takes text was now w s → to_go text s.walk < to_go text w
+  falls_takes T =
       let h = T.shifts.taken in
       omega (
         arith,
         T.shifts.low,
-        T.shifts.mode-next,
+        T.shifts.mode_next,
         W.mode,
         W.lexed.longer h.0 h.1,
         W.lexed.within h.0 h.1,
@@ -223,9 +223,9 @@ module _ {text was now : List ℕ} {w : Walk} {s : Step} (W : Walks text w) wher
         T.lexed.inside,
       )
 
-  pub walks-closes : Closes text was now w s → Walks text s.walk
-  walks-closes C =
+  pub walks_closes : Closes text was now w s → Walks text s.walk
+  walks_closes C =
       rw C.walk (record { at = W.at; lexed = W.lexed; mode = omega arith; low = omega (arith, W.low, C.pops.some, C.pops.follows) })
 
-  pub falls-closes : Closes text was now w s → toGo text s.walk < toGo text w
-  falls-closes C = rw C.walk (omega (arith, C.pops.some))
+  pub falls_closes : Closes text was now w s → to_go text s.walk < to_go text w
+  falls_closes C = rw C.walk (omega (arith, C.pops.some))

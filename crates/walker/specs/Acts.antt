@@ -46,12 +46,12 @@ latest zero s = 0
 latest (suc h) s = get_or s h 0
 
 -- The least byte of what is open that a token of kind k closes: an end closes all but brackets, `/` closes rows, an item prefixes.
-unfoldable pub closesFrom : ℕ → ℕ
-closesFrom k = pick (ltb k 4) 2 (pick (eqb k 4) 3 4)
+unfoldable pub closes_from : ℕ → ℕ
+closes_from k = pick (ltb k 4) 2 (pick (eqb k 4) 3 4)
 
 -- What a token of kind 6 to 9 opens where an item must begin.
-unfoldable pub pushedBy : ℕ → Pending
-pushedBy k = pick (eqb k 6) angle (pick (eqb k 7) bracket (pick (eqb k 8) (waits and) (waits not)))
+unfoldable pub pushed_by : ℕ → Pending
+pushed_by k = pick (eqb k 6) angle (pick (eqb k 7) bracket (pick (eqb k 8) (waits and) (waits not)))
 
 -- ## What is put out
 
@@ -88,14 +88,14 @@ module _ (mode h : ℕ) (was now : List ℕ) (k : ℕ) where
   pub record Pops : Type 0 where
     pub follows : mode ≡ 2
     pub some : 1 ≤ h
-    pub no-bracket : 2 ≤ latest h was
+    pub no_bracket : 2 ≤ latest h was
     pub same : now ≡ was
     pub goes : (ts : List Token) → kind ts ≡ k → stream ts behind (opened h was) ≡ closing (entry_of (latest h was)) ▸ stream ts behind (opened (h - 1) was)
 
   -- The front token is taken. Then m is the mode and g are open: together at most one more than before.
   pub record Shifts (m g : ℕ) : Type 0 where
     pub taken : (1 ≤ k) × (k ≤ 10)
-    pub mode-next : (1 ≤ m) × (m ≤ 2)
+    pub mode_next : (1 ≤ m) × (m ≤ 2)
     pub low : g + m ≤ h + mode + 1
     pub goes : (t : Token) (us : List Token) → kind_of t ≡ k → stream (t ∷ us) (mode_of mode) (opened h was) ≡ (puts t ▸▸ stream us (mode_of m) (opened g now))
 

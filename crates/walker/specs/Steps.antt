@@ -9,8 +9,8 @@ use Rattle.walker.specs.declared.walk.Step.{Step}
 use Rattle.walker.specs.Acts.{entry_of, latest, closing, Pops, Shifts, ComesTo}
 
 -- The number of the symbol that a token puts out, by its kind and which of its kind it is; 30 if it puts out none.
-unfoldable pub shownAs : (kind symbol : ℕ) → ℕ
-shownAs k n = pick (eqb k 1) 0 (pick (eqb k 2) 14 (pick (eqb k 5) n (pick (eqb k 6) n (pick (eqb k 10) n 30))))
+unfoldable pub shown_as : (kind symbol : ℕ) → ℕ
+shown_as k n = pick (eqb k 1) 0 (pick (eqb k 2) 14 (pick (eqb k 5) n (pick (eqb k 6) n (pick (eqb k 10) n 30))))
 
 module _ (text was now : List ℕ) (w : Walk) (s : Step) where
   -- The latest that is open is closed, and the walk stands before the same token.
@@ -22,7 +22,7 @@ module _ (text was now : List ℕ) (w : Walk) (s : Step) where
   -- The token is taken, and the walk stands before the next.
   pub record Takes : Type 0 where
     pub shifts : Shifts w.mode w.height was now w.token.kind s.walk.mode s.walk.height
-    pub symbol : s.symbol ≡ shownAs w.token.kind w.token.symbol
+    pub symbol : s.symbol ≡ shown_as w.token.kind w.token.symbol
     pub token : s.token ≡ w.token
     pub lexed : Lexed text w.token.next s.walk.token
 

@@ -14,8 +14,8 @@ abbrev pub Tells : List ℕ → Reading → Type 0
 Tells text Whole = came (streamed (tokens text)) ≡ true
 Tells text (Stopped p) = (came (streamed (tokens text)) ≡ false) × StopsAt text p
 
-pub tells-one : (text : List ℕ) (r q : Reading) → Tells text r → Tells text q → r ≡ q
-tells-one text Whole Whole a b = refl
-tells-one text Whole (Stopped p) a b = let z = b.0 in no_way (cc)
-tells-one text (Stopped p) Whole a b = let z = a.0 in no_way (cc)
-tells-one text (Stopped p) (Stopped q) a b = ap Stopped (one_place p q a.1 b.1)
+pub tells_one : (text : List ℕ) (r q : Reading) → Tells text r → Tells text q → r ≡ q
+tells_one text Whole Whole a b = refl
+tells_one text Whole (Stopped p) a b = let z = b.0 in no_way (cc)
+tells_one text (Stopped p) Whole a b = let z = a.0 in no_way (cc)
+tells_one text (Stopped p) (Stopped q) a b = ap Stopped (one_place p q a.1 b.1)

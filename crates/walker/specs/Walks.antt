@@ -7,7 +7,7 @@ use Rattle.notation.specs.Lexer.{tokens}
 use Rattle.notation.specs.At.{name_at}
 use Rattle.notation.specs.Stream.{Symbol, named, stands, enters, leaves, front, back, joins, Stream, ◌▸◌, ended, broken, Mode, stream}
 use Rattle.lexer.specs.declared.token.Token.{Token}
-use Rattle.lexer.specs.Meant.{leafAt, openerAt, ahead, Lexed}
+use Rattle.lexer.specs.Meant.{leaf_at, opener_at, ahead, Lexed}
 use Rattle.walker.specs.declared.walk.Walk.{Walk}
 use Rattle.walker.specs.declared.walk.Step.{Step}
 use Rattle.walker.specs.Acts.{mode_of, opened}
@@ -25,8 +25,8 @@ pub record Walks (text : List ℕ) (w : Walk) : Type 0 where
   pub low : w.height + w.mode ≤ w.token.start + 1
 
 -- What falls with each act.
-abbrev pub toGo : List ℕ → Walk → ℕ
-toGo text w = 3 * (length text - w.token.start) + w.height
+abbrev pub to_go : List ℕ → Walk → ℕ
+to_go text w = 3 * (length text - w.token.start) + w.height
 
 -- The symbol of a number, as `Symbols.kind` numbers them: up to 13 it holds what its token says, from 14 on nothing.
 unfoldable pub plain_of : ℕ → Symbol
@@ -39,7 +39,7 @@ plain_of n =
 unfoldable pub symbol_at : List ℕ → ℕ → Token → Symbol
 symbol_at text n t =
     pick (eqb n 0) (named (name_at text t.name))
-    (pick (ltb n 10) (stands (leafAt text t)) (pick (ltb n 14) (enters (openerAt text t)) (plain_of n)))
+    (pick (ltb n 10) (stands (leaf_at text t)) (pick (ltb n 14) (enters (opener_at text t)) (plain_of n)))
 
 -- ## What a step promises
 
@@ -56,7 +56,7 @@ pub record Taken (text : List ℕ) (n : ℕ) (t : Token) : Type 0 where
 pub record Passing (text was stack : List ℕ) (w₀ w : Walk) : Type 0 where
   pub same : rest text was w₀ ≡ rest text stack w
   pub walks : Walks text w
-  pub less : toGo text w ≤ toGo text w₀
+  pub less : to_go text w ≤ to_go text w₀
   pub long : length stack ≡ length was
 
 -- What was to come is the symbol that is given, and then what is to come. If a token was taken for it, the walk goes on behind that. It has less to go.
@@ -65,7 +65,7 @@ pub record Gives (text was now : List ℕ) (w : Walk) (s : Step) : Type 0 where
   pub taken : s.symbol ≤ 14 → Taken text s.symbol s.token
   pub behind : s.symbol ≤ 14 → Lexed text s.token.next s.walk.token
   pub walks : Walks text s.walk
-  pub falls : toGo text s.walk < toGo text w
+  pub falls : to_go text s.walk < to_go text w
 
 -- A symbol, up to 21; 40 where the walk has ended, 41 where it is broken.
 pub record Nexts (text was now : List ℕ) (w : Walk) (s : Step) : Type 0 where

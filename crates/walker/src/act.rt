@@ -1,6 +1,6 @@
 // One act of the walk: what is open is closed, or the front token is taken.
 ghost use Rattle.std.specs.Prelude.{◌≡◌, true, List, ℕ, ◌+◌, ◌<◌, ◌≤◌, length};
-ghost use Rattle.walker.specs.Acts.{Acts, latest, entry_of, closesFrom, pushedBy};
+ghost use Rattle.walker.specs.Acts.{Acts, latest, entry_of, closes_from, pushed_by};
 
 // What is done: the latest that is open is closed; the front token is taken, which leaves this mode and this many open; or the walk is over, at its end or broken.
 #[derive(Drop)]
@@ -38,7 +38,7 @@ pub(crate) fn shuts(stack: &[u8; 65536], height: usize, kind: u8) -> bool
 
 // The least of what is open that a token of this kind closes.
 fn closes_from(kind: u8) -> u8
-    ensures { result ≡ closesFrom kind }
+    ensures { result ≡ closes_from kind }
 {
     if kind < 4 {
         return 2;
@@ -51,7 +51,7 @@ fn closes_from(kind: u8) -> u8
 
 // What a token of this kind opens where an item must begin: `<`, `(`, `&` and `!`.
 fn entry(kind: u8) -> u8
-    ensures { entry_of result ≡ pushedBy kind }
+    ensures { entry_of result ≡ pushed_by kind }
 {
     match kind {
         6 => 1,

@@ -3,7 +3,7 @@ ghost use Rattle.std.specs.Prelude.{◌≡◌, ◌≤◌, length};
 ghost use Rattle.notation.specs.Symbols as Symbols;
 ghost use Rattle.notation.specs.Stream.{start, want};
 ghost use Rattle.walker.specs.Acts.{entry_of, closing};
-ghost use Rattle.walker.specs.Steps.{shownAs, Steps};
+ghost use Rattle.walker.specs.Steps.{shown_as, Steps};
 ghost use Rattle.walker.specs.Tells.{Tells};
 ghost use Rattle.walker.specs.Walks.{Walks, Begins, Passing, Nexts};
 
@@ -49,7 +49,7 @@ fn closed(entry: u8) -> u8
 
 // The number of the symbol that a token puts out; 30 if it puts out none.
 fn shown(kind: u8, symbol: u8) -> u8
-    ensures { result ≡ shownAs kind symbol }
+    ensures { result ≡ shown_as kind symbol }
 {
     match kind {
         1 => 0,

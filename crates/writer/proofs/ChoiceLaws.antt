@@ -7,24 +7,24 @@ use lib.ListN.{length, length-append}
 use Rattle.grammar.specs.Expr.{Expr, Choice}
 use Rattle.notation.specs.Tree.{Name, Part}
 use Rattle.notation.specs.At.{class_of}
-use Rattle.notation.specs.Compile.{leafCount, partNode, choices, leafNodes}
+use Rattle.notation.specs.Compile.{leaf_count, part_node, choices, leaf_nodes}
 use Rattle.writer.specs.declared.node.Made.{Made}
 use Rattle.writer.specs.Put.{Room, Adds}
-use Rattle.writer.specs.PutLaws.{adds_none, adds_on, adds-as}
+use Rattle.writer.specs.PutLaws.{adds_none, adds_on, adds_as}
 
 -- ## A class by the number of its parts
 
-pub class-count : (ps : List Part) → 1 ≤ length ps → leafCount (class_of ps) ≡ length ps + (length ps - 1)
+pub class_count : (ps : List Part) → 1 ≤ length ps → leaf_count (class_of ps) ≡ length ps + (length ps - 1)
 unfolding class_of
-class-count [] h = absurd (omega arith)
-class-count (p ∷ ps) h = omega arith
+class_count [] h = absurd (omega arith)
+class_count (p ∷ ps) h = omega arith
 
-pub class-nodes :
+pub class_nodes :
     (production table condition : Name → ℕ) (k n : ℕ) (ps : List Part) → length ps ≡ suc n
-    → leafNodes production table condition k (class_of ps) ≡ map partNode ps ++ choices k n (k + n) (suc (k + n))
+    → leaf_nodes production table condition k (class_of ps) ≡ map part_node ps ++ choices k n (k + n) (suc (k + n))
 unfolding class_of
-class-nodes production table condition k n [] h = absurd (omega arith)
-class-nodes production table condition k n (p ∷ ps) h = let e : length ps ≡ n = omega arith in rw e
+class_nodes production table condition k n [] h = absurd (omega arith)
+class_nodes production table condition k n (p ∷ ps) h = let e : length ps ≡ n = omega arith in rw e
 
 -- ## The choices
 
@@ -34,16 +34,16 @@ pub record Choosing (was : List ℕ) (m : Made) (k n : ℕ) (now : List ℕ) (r 
   pub rest : new ++ choices k left (r.nodes - 1) r.nodes ≡ choices k n (k + n) (suc (k + n))
   pub many : length new + left ≡ n
 
-pub choosing-none : (was : List ℕ) (m : Made) (k n : ℕ) → k + n + 1 ≡ m.nodes → Room was m n → Choosing was m k n was m n
-choosing-none was m k n e r =
+pub choosing_none : (was : List ℕ) (m : Made) (k n : ℕ) → k + n + 1 ≡ m.nodes → Room was m n → Choosing was m k n was m n
+choosing_none was m k n e r =
     let f : m.nodes ≡ suc (k + n) = omega arith in
     let g : suc (k + n) - 1 ≡ k + n = omega arith in
     record { new = []; adds = adds_none r; rest = rw (f, g); many = omega arith }
 
 module _ {was mid : List ℕ} {m r : Made} {k n left : ℕ} (h : Choosing was m k n mid r left) where
-  pub choosing-more : {now : List ℕ} {s : Made} → 0 < left → Adds mid r now s (Choice (k + (left - 1)) (r.nodes - 1) ∷ []) → Choosing was m k n now s (left - 1)
+  pub choosing_more : {now : List ℕ} {s : Made} → 0 < left → Adds mid r now s (Choice (k + (left - 1)) (r.nodes - 1) ∷ []) → Choosing was m k n now s (left - 1)
   unfolding choices
-  choosing-more {s = s} p a =
+  choosing_more {s = s} p a =
       let e : left ≡ suc (left - 1) = omega arith in
       let f : s.nodes ≡ suc r.nodes = omega (arith, a.many) in
       let g : suc r.nodes - 1 ≡ r.nodes = omega arith in
@@ -56,6 +56,6 @@ module _ {was mid : List ℕ} {m r : Made} {k n left : ℕ} (h : Choosing was m 
         many = omega (arith, h.many, length-append h.new (x ∷ []));
       }
 
-  pub choosing-all : left ≡ 0 → Adds was m mid r (choices k n (k + n) (suc (k + n)))
+  pub choosing_all : left ≡ 0 → Adds was m mid r (choices k n (k + n) (suc (k + n)))
   unfolding choices
-  choosing-all e = adds-as (sym (append-nil h.new) ∙ ap (λ l. h.new ++ choices k l (r.nodes - 1) r.nodes) (sym e) ∙ h.rest) h.adds
+  choosing_all e = adds_as (sym (append-nil h.new) ∙ ap (λ l. h.new ++ choices k l (r.nodes - 1) r.nodes) (sym e) ∙ h.rest) h.adds

@@ -1,6 +1,6 @@
 -- Bytes put down in a lent buffer, one after the other, and nodes among them.
 use Rattle.std.specs.Prelude.{ℕ, ◌+◌, ◌*◌, ◌≤◌, ◌<◌, ◌≡◌, List, [], ◌∷◌, ◌++◌, length, take}
-use Rattle.format.specs.Written.{written, encodeNode}
+use Rattle.format.specs.Written.{written, encode_node}
 use Rattle.grammar.specs.Expr.{Expr}
 use Rattle.writer.specs.declared.node.Made.{Made}
 
@@ -23,6 +23,6 @@ pub record Room (out : List ℕ) (m : Made) (n : ℕ) : Type 0 where
 
 -- These nodes were added.
 pub record Adds (was : List ℕ) (m : Made) (now : List ℕ) (r : Made) (xs : List Expr) : Type 0 where
-  pub wrote : Wrote was m.length now r.length (written encodeNode xs)
+  pub wrote : Wrote was m.length now r.length (written encode_node xs)
   pub many : r.nodes ≡ m.nodes + length xs
   pub low : r.length ≤ 66 * r.nodes

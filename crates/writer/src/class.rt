@@ -3,7 +3,7 @@ ghost use Rattle.std.specs.Prelude.{◌≡◌, [], ◌∷◌, map, ℕ, suc, ◌
 ghost use Rattle.notation.specs.Tree.{Name};
 ghost use Rattle.notation.specs.Lexer.{range};
 ghost use Rattle.notation.specs.At.{parts_of, class_of};
-ghost use Rattle.notation.specs.Compile.{partNode, choices, leafCount, leafNodes};
+ghost use Rattle.notation.specs.Compile.{part_node, choices, leaf_count, leaf_nodes};
 ghost use Rattle.chars.specs.Meant.{ClassAt};
 ghost use Rattle.writer.specs.Put.{Room, Adds};
 
@@ -13,7 +13,7 @@ use chars::class::part_at;
 // A part: the bytes from lo to hi.
 fn add_part(out: &mut [u8], m: Made, lo: u16, hi: u16) -> Made
     requires { Room out.old m 1 }
-    ensures { Adds out.old m out.new result (partNode (range lo hi) ∷ []) }
+    ensures { Adds out.old m out.new result (part_node (range lo hi) ∷ []) }
 {
     if lo == hi {
         return add_one(out, m, 1, lo);
@@ -24,7 +24,7 @@ fn add_part(out: &mut [u8], m: Made, lo: u16, hi: u16) -> Made
 // The parts of the class at `start`.
 fn add_parts(text: &[u8], out: &mut [u8], m: Made, start: usize) -> Made
     requires { ClassAt text.now start × Room out.old m (length (parts_of (drop start text.now))) }
-    ensures { Adds out.old m out.new result (map partNode (parts_of (drop start text.now))) }
+    ensures { Adds out.old m out.new result (map part_node (parts_of (drop start text.now))) }
 {
     let mut r = m;
     let mut i = start + 1;
@@ -52,8 +52,8 @@ fn add_choices(out: &mut [u8], m: Made, k: usize, n: usize) -> Made
 
 // The nodes of the class at `start`.
 pub(crate) fn add_class(text: &[u8], out: &mut [u8], m: Made, start: usize) -> Made
-    requires { ClassAt text.now start × (1 ≤ length (parts_of (drop start text.now))) × Room out.old m (leafCount (class_of (parts_of (drop start text.now)))) }
-    ensures { (production table condition : Name → ℕ) → Adds out.old m out.new result (leafNodes production table condition m.nodes (class_of (parts_of (drop start text.now)))) }
+    requires { ClassAt text.now start × (1 ≤ length (parts_of (drop start text.now))) × Room out.old m (leaf_count (class_of (parts_of (drop start text.now)))) }
+    ensures { (production table condition : Name → ℕ) → Adds out.old m out.new result (leaf_nodes production table condition m.nodes (class_of (parts_of (drop start text.now)))) }
 {
     let r = add_parts(text, out, m, start);
     add_choices(out, r, m.nodes, r.nodes - m.nodes - 1)

@@ -2,11 +2,11 @@
 ghost use Rattle.std.specs.Prelude.{◌≡◌, true};
 ghost use Rattle.notation.specs.Naming.{all};
 ghost use Rattle.notation.specs.Limits.{short};
-ghost use Rattle.notation.specs.Compile.{leafCount};
-ghost use Rattle.lexer.specs.Meant.{leafAt};
+ghost use Rattle.notation.specs.Compile.{leaf_count};
+ghost use Rattle.lexer.specs.Meant.{leaf_at};
 ghost use Rattle.index.specs.Listed.{Ascending};
 ghost use Rattle.writer.specs.Put.{Room, Adds};
-ghost use Rattle.writer.specs.Named.{names_of, leafBy, Numbered};
+ghost use Rattle.writer.specs.Named.{names_of, leaf_by, Numbered};
 ghost use Rattle.writer.specs.Leaf.{LeafTaken};
 
 use crate::class::add_class;
@@ -28,8 +28,8 @@ pub fn add_leaf(
     t: Token,
 ) -> Made
     requires ascending { Ascending (names_of text.now heads.now) × Numbered text.now tables.now switches.now × LeafTaken text.now t }
-    requires t_value { (all (λ b. b) (short (leafAt text.now t)) ≡ true) × Room out.old m (leafCount (leafAt text.now t)) }
-    ensures { Adds out.old m out.new result (leafBy text.now heads.now roots.now tables.now switches.now m.nodes (leafAt text.now t)) }
+    requires t_value { (all (λ b. b) (short (leaf_at text.now t)) ≡ true) × Room out.old m (leaf_count (leaf_at text.now t)) }
+    ensures { Adds out.old m out.new result (leaf_by text.now heads.now roots.now tables.now switches.now m.nodes (leaf_at text.now t)) }
 {
     let symbol = t.symbol;
     match symbol {

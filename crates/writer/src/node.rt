@@ -1,6 +1,6 @@
 // Nodes put down in a lent buffer: a tag, and then the operands.
 ghost use Rattle.std.specs.Prelude.{◌≡◌, [], ◌∷◌};
-ghost use Rattle.format.specs.Written.{numbers, encodeNode};
+ghost use Rattle.format.specs.Written.{numbers, encode_node};
 ghost use Rattle.grammar.specs.Expr.{Expr};
 ghost use Rattle.writer.specs.Put.{Room, Adds};
 
@@ -16,7 +16,7 @@ pub struct Made {
 // A node without operands.
 pub(crate) fn add_tag(out: &mut [u8], m: Made, tag: u16) -> Made
     requires { Room out.old m 1 }
-    ensures { (x : Expr) → encodeNode x ≡ numbers (tag ∷ []) → Adds out.old m out.new result (x ∷ []) }
+    ensures { (x : Expr) → encode_node x ≡ numbers (tag ∷ []) → Adds out.old m out.new result (x ∷ []) }
 {
     let end = put_number(out, m.length, tag);
     Made {
@@ -27,7 +27,7 @@ pub(crate) fn add_tag(out: &mut [u8], m: Made, tag: u16) -> Made
 
 pub(crate) fn add_one(out: &mut [u8], m: Made, tag: u16, a: u16) -> Made
     requires { Room out.old m 1 }
-    ensures { (x : Expr) → encodeNode x ≡ numbers (tag ∷ a ∷ []) → Adds out.old m out.new result (x ∷ []) }
+    ensures { (x : Expr) → encode_node x ≡ numbers (tag ∷ a ∷ []) → Adds out.old m out.new result (x ∷ []) }
 {
     let end = put_two(out, m.length, tag, a);
     Made {
@@ -38,7 +38,7 @@ pub(crate) fn add_one(out: &mut [u8], m: Made, tag: u16, a: u16) -> Made
 
 pub(crate) fn add_two(out: &mut [u8], m: Made, tag: u16, a: u16, b: u16) -> Made
     requires { Room out.old m 1 }
-    ensures { (x : Expr) → encodeNode x ≡ numbers (tag ∷ a ∷ b ∷ []) → Adds out.old m out.new result (x ∷ []) }
+    ensures { (x : Expr) → encode_node x ≡ numbers (tag ∷ a ∷ b ∷ []) → Adds out.old m out.new result (x ∷ []) }
 {
     let at = put_two(out, m.length, tag, a);
     let end = put_number(out, at, b);
@@ -50,7 +50,7 @@ pub(crate) fn add_two(out: &mut [u8], m: Made, tag: u16, a: u16, b: u16) -> Made
 
 pub(crate) fn add_three(out: &mut [u8], m: Made, tag: u16, a: u16, b: u16, c: u16) -> Made
     requires { Room out.old m 1 }
-    ensures { (x : Expr) → encodeNode x ≡ numbers (tag ∷ a ∷ b ∷ c ∷ []) → Adds out.old m out.new result (x ∷ []) }
+    ensures { (x : Expr) → encode_node x ≡ numbers (tag ∷ a ∷ b ∷ c ∷ []) → Adds out.old m out.new result (x ∷ []) }
 {
     let at = put_two(out, m.length, tag, a);
     let end = put_two(out, at, b, c);

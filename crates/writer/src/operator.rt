@@ -5,8 +5,8 @@ ghost use Rattle.notation.specs.Tree.{Name};
 ghost use Rattle.notation.specs.At.{name_at};
 ghost use Rattle.index.specs.Listed.{Ascending};
 ghost use Rattle.writer.specs.Put.{Room, Adds};
-ghost use Rattle.writer.specs.Named.{names_of, placeBy, operatorBy, Numbered};
-ghost use Rattle.writer.specs.Operator.{first_of, second_of, unaryNodes, binaryOf, openerOf};
+ghost use Rattle.writer.specs.Named.{names_of, place_by, operator_by, Numbered};
+ghost use Rattle.writer.specs.Operator.{first_of, second_of, unary_nodes, binary_of, opener_of};
 
 use crate::named::place_of;
 use crate::node::{Made, add_one, add_tag, add_three, add_two};
@@ -41,8 +41,8 @@ fn add_second(out: &mut [u8], m: Made, symbol: u8, a: u16, k: u16) -> Made
 
 // A prefix or a suffix whose operand's node is a.
 pub fn add_unary(out: &mut [u8], m: Made, symbol: u8, a: u16) -> Made
-    requires { Room out.old m (length (unaryNodes symbol a m.nodes)) }
-    ensures { Adds out.old m out.new result (unaryNodes symbol a m.nodes) }
+    requires { Room out.old m (length (unary_nodes symbol a m.nodes)) }
+    ensures { Adds out.old m out.new result (unary_nodes symbol a m.nodes) }
 {
     let k = m.nodes as u16;
     let r = add_first(out, m, symbol, a);
@@ -52,7 +52,7 @@ pub fn add_unary(out: &mut [u8], m: Made, symbol: u8, a: u16) -> Made
 // A sequence or a choice of the nodes a and b.
 pub fn add_binary(out: &mut [u8], m: Made, symbol: u8, a: u16, b: u16) -> Made
     requires { Room out.old m 1 }
-    ensures { Adds out.old m out.new result (binaryOf symbol a b ∷ []) }
+    ensures { Adds out.old m out.new result (binary_of symbol a b ∷ []) }
 {
     if symbol == 20 {
         return add_two(out, m, 5, a, b);
@@ -71,7 +71,7 @@ fn add_on(
     a: u16,
 ) -> Made
     requires { Ascending (names_of text.now switches.now) × (length switches.now ≤ 8) × Room out.old m 1 }
-    ensures { Adds out.old m out.new result (On (placeBy text.now switches.now (name_at text.now p)) (not (eqb mark 13)) a ∷ []) }
+    ensures { Adds out.old m out.new result (On (place_by text.now switches.now (name_at text.now p)) (not (eqb mark 13)) a ∷ []) }
 {
     let switch = place_of(text, switches, p) as u16;
     add_three(out, m, 18, switch, (mark != 13) as u16, a)
@@ -89,7 +89,7 @@ pub fn add_operator(
     a: u16,
 ) -> Made
     requires { Numbered text.now tables.now switches.now × Room out.old m 1 }
-    ensures { (production : Name → ℕ) → Adds out.old m out.new result (operatorBy text.now tables.now switches.now production (openerOf mark (name_at text.now p)) a ∷ []) }
+    ensures { (production : Name → ℕ) → Adds out.old m out.new result (operator_by text.now tables.now switches.now production (opener_of mark (name_at text.now p)) a ∷ []) }
 {
     if 13 <= mark {
         return add_on(text, switches, out, m, mark, p, a);

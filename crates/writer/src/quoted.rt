@@ -1,8 +1,8 @@
 // Quoted text as a node.
 ghost use Rattle.std.specs.Prelude.{◌≡◌, [], ◌∷◌, ◌+◌, ◌≤◌, length, drop};
 ghost use Rattle.grammar.specs.Expr.{Text};
-ghost use Rattle.notation.specs.At.{quotedOf};
-ghost use Rattle.notation.specs.Compile.{textNode};
+ghost use Rattle.notation.specs.At.{quoted_of};
+ghost use Rattle.notation.specs.Compile.{text_node};
 ghost use Rattle.chars.specs.Meant.{QuotedAt};
 ghost use Rattle.writer.specs.Put.{Wrote, Room, Adds};
 
@@ -13,8 +13,8 @@ use chars::written::char_at;
 
 // The bytes that the quoted text at `start` stands for.
 fn put_quoted(text: &[u8], out: &mut [u8], at: usize, start: usize) -> usize
-    requires { QuotedAt text.now start × (at + length (quotedOf (drop start text.now)) ≤ length out.old) }
-    ensures { Wrote out.old at out.new result (quotedOf (drop start text.now)) }
+    requires { QuotedAt text.now start × (at + length (quoted_of (drop start text.now)) ≤ length out.old) }
+    ensures { Wrote out.old at out.new result (quoted_of (drop start text.now)) }
 {
     let mark = text[start];
     let mut next = at;
@@ -29,8 +29,8 @@ fn put_quoted(text: &[u8], out: &mut [u8], at: usize, start: usize) -> usize
 
 // A text of n bytes, as it is written where n is two or more.
 fn add_text(text: &[u8], out: &mut [u8], m: Made, start: usize, n: u16) -> Made
-    requires { QuotedAt text.now start × (n ≡ length (quotedOf (drop start text.now))) × (n ≤ 64) × Room out.old m 1 }
-    ensures { Adds out.old m out.new result (Text (quotedOf (drop start text.now)) ∷ []) }
+    requires { QuotedAt text.now start × (n ≡ length (quoted_of (drop start text.now))) × (n ≤ 64) × Room out.old m 1 }
+    ensures { Adds out.old m out.new result (Text (quoted_of (drop start text.now)) ∷ []) }
 {
     let at = put_two(out, m.length, 4, n);
     let end = put_quoted(text, out, at, start);
@@ -42,8 +42,8 @@ fn add_text(text: &[u8], out: &mut [u8], m: Made, start: usize, n: u16) -> Made
 
 // The node of the quoted text at `start`.
 pub(crate) fn add_quoted(text: &[u8], out: &mut [u8], m: Made, start: usize) -> Made
-    requires { QuotedAt text.now start × (length (quotedOf (drop start text.now)) ≤ 64) × Room out.old m 1 }
-    ensures { Adds out.old m out.new result (textNode (quotedOf (drop start text.now)) ∷ []) }
+    requires { QuotedAt text.now start × (length (quoted_of (drop start text.now)) ≤ 64) × Room out.old m 1 }
+    ensures { Adds out.old m out.new result (text_node (quoted_of (drop start text.now)) ∷ []) }
 {
     let n = quoted_length(text, start);
     if n == 0 {

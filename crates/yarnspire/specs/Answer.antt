@@ -8,9 +8,9 @@ use Rattle.yarnspire.specs.declared.answer.Answer.{Answer}
 use Rattle.yarnspire.specs.declared.answer.Answer.TheVariants.{Accepted, Failed, Refused}
 
 -- "Check gives 1 to 8 or good."
-abbrev pub verdictOf : i.Checked → Verdict
-verdictOf (i.good g) = Good
-verdictOf (i.refused number place) = Faulty number place
+abbrev pub verdict_of : i.Checked → Verdict
+verdict_of (i.good g) = Good
+verdict_of (i.refused number place) = Faulty number place
 
 -- For C: number 0 and place 0 stand for good.
 abbrev pub number_of : Verdict → ℕ
@@ -28,10 +28,10 @@ numbers kind consumed steps depth symbols place =
 
 -- Kind 0 for accepted, 99 for failed, else the refusal's number. "Accepted: place 0. Failed: consumed, symbols and place 0." A refusal has
 -- consumed and symbols 0.
-abbrev pub sixOf : Answer → m.Answer
-sixOf (Accepted consumed steps depth symbols) = numbers 0 consumed steps depth symbols 0
-sixOf (Failed steps depth) = numbers 99 0 steps depth 0 0
-sixOf (Refused number place steps depth) = numbers number 0 steps depth 0 place
+abbrev pub six_of : Answer → m.Answer
+six_of (Accepted consumed steps depth symbols) = numbers 0 consumed steps depth symbols 0
+six_of (Failed steps depth) = numbers 99 0 steps depth 0 0
+six_of (Refused number place steps depth) = numbers number 0 steps depth 0 place
 
 -- Accepted, failed, or a refusal of the list.
 abbrev pub Kind : ℕ → Type 0

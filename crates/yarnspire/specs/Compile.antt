@@ -2,7 +2,7 @@
 use Rattle.std.specs.Prelude.{ℕ, ◌≡◌, List, ◌++◌, ◌↔◌, length, drop}
 use Rattle.grammar.specs.Grammar.{Grammar}
 use Rattle.format.specs.Written.{encode}
-use Rattle.format.specs.Image.{good, readImage}
+use Rattle.format.specs.Image.{good, read_image}
 use Rattle.notation.specs.Tree.{Production}
 use Rattle.notation.specs.Text.{ReadsAs}
 use Rattle.notation.specs.Judged as answer
@@ -15,7 +15,7 @@ use Rattle.compiler.specs.declared.image.Compiled.TheVariants.{Written, Refused}
 
 pub record Compiles (text before after : List ℕ) (r : Compiled) : Type 0 where
   -- What is said of the text for the room that the buffer gives (`Says` in `notation`), and what is given for it: the image at the buffer's front, with
-  -- what lies past it as it was; or number and place, and the buffer as it was. This settles every call, and what follows says it again in other words.
+  -- what lies past it was; or number and place, and the buffer as it was. This settles every call, and what follows says it again in other words.
   pub is : compiler.Compiles text before after r
   -- An image is written exactly if the text is at most 65,535 bytes, the notation derives it, its names keep the rules, 01's limits hold, and the image of
   -- its grammar fits the buffer.
@@ -25,7 +25,7 @@ pub record Compiles (text before after : List ℕ) (r : Compiled) : Type 0 where
   -- It is good by `check`, and its grammar means the text's reading.
   pub means :
       (n : ℕ) (g : Grammar) → r ≡ Written n → Taken text (length before) g
-      → (readImage (encode g) ≡ good g) × ((ps : List Production) × ReadsAs text ps × Meant g ps)
+      → (read_image (encode g) ≡ good g) × ((ps : List Production) × ReadsAs text ps × Meant g ps)
   -- A refusal has its number exactly if that is the first of 20 to 25 that is due.
   pub refused : (number : ℕ) → ((at : ℕ) × (r ≡ Refused number at)) ↔ Due text (length before) number
   -- Its place is the one that is said, and the buffer is as it was.
@@ -48,5 +48,5 @@ pub record ThreeNumbers (text before after : List ℕ) (number long at : ℕ) : 
   pub compiled : Compiled
   pub compiles : Compiles text before after compiled
   pub number_is : number ≡ number_of compiled
-  pub length-is : long ≡ length_of compiled
-  pub at-is : at ≡ atOf compiled
+  pub length_is : long ≡ length_of compiled
+  pub at_is : at ≡ atOf compiled

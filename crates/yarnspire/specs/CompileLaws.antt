@@ -6,10 +6,10 @@ use Rattle.grammar.specs.Sound.{Bytes}
 use Rattle.format.specs.Written.{encode}
 use Rattle.notation.specs.Judged as answer
 use Rattle.notation.specs.Said.{Says}
-use Rattle.notation.specs.SaidLaws.{one_answer, taken-exactly, refused-exactly, good-read, good-means}
+use Rattle.notation.specs.SaidLaws.{one_answer, taken_exactly, refused_exactly, good_read, good_means}
 use Rattle.notation.specs.Kept.{Taken, Due}
 use Rattle.compiler.specs.Compiles as compiler
-use Rattle.compiler.specs.CompilesLaws.{one-outcome as one-given}
+use Rattle.compiler.specs.CompilesLaws.{one_outcome as one_given}
 use Rattle.compiler.specs.declared.image.Compiled.{Compiled}
 use Rattle.compiler.specs.declared.image.Compiled.TheVariants.{Written, Refused}
 use Rattle.yarnspire.specs.Compile.{Compiles, number_of, length_of, atOf, ThreeNumbers}
@@ -21,16 +21,16 @@ module _ (text before after : List ℕ) where
   abbrev Given : Compiled → Type 0
   Given r = (a : answer.Answer) × Says text (length before) a × compiler.Gives a before after r
 
-  said-written : (r : Compiled) (g : Grammar) → Given r → Says text (length before) (answer.good g) → r ≡ Written (length (encode g))
-  said-written r g (a, s, G) t = go a r (one_answer s t) G
+  said_written : (r : Compiled) (g : Grammar) → Given r → Says text (length before) (answer.good g) → r ≡ Written (length (encode g))
+  said_written r g (a, s, G) t = go a r (one_answer s t) G
     where
       go : (a : answer.Answer) (r : Compiled) → a ≡ answer.good g → compiler.Gives a before after r → r ≡ Written (length (encode g))
       go (answer.good h) (Written n) e G = let z : h ≡ g = cc in ap Written (G.0 ∙ ap (λ g. length (encode g)) z)
       go (answer.good h) (Refused k p) e G = absurd G
       go (answer.refused m q) r e G = no_way (cc)
 
-  said-refused : (r : Compiled) (n p : ℕ) → Given r → Says text (length before) (answer.refused n p) → r ≡ Refused n p
-  said-refused r n p (a, s, G) t = go a r (one_answer s t) G
+  said_refused : (r : Compiled) (n p : ℕ) → Given r → Says text (length before) (answer.refused n p) → r ≡ Refused n p
+  said_refused r n p (a, s, G) t = go a r (one_answer s t) G
     where
       go : (a : answer.Answer) (r : Compiled) → a ≡ answer.refused n p → compiler.Gives a before after r → r ≡ Refused n p
       go (answer.good h) r e G = no_way (cc)
@@ -39,9 +39,9 @@ module _ (text before after : List ℕ) where
           let x : m ≡ n = cc in let y : q ≡ p = cc in ap (λ k. Refused k l) (G.0 ∙ x) ∙ ap (λ l. Refused n l) (G.1 ∙ y)
 
   -- What is given tells what is said.
-  written-says : (n : ℕ) → Given (Written n) → (g : Grammar) × Says text (length before) (answer.good g) × (n ≡ length (encode g)) × (after ≡ encode g ++ drop (length (encode g)) before)
-  written-says n (answer.good g, s, G) = (g, s, G.0, G.1)
-  written-says n (answer.refused k p, s, G) = absurd G
+  written_says : (n : ℕ) → Given (Written n) → (g : Grammar) × Says text (length before) (answer.good g) × (n ≡ length (encode g)) × (after ≡ encode g ++ drop (length (encode g)) before)
+  written_says n (answer.good g, s, G) = (g, s, G.0, G.1)
+  written_says n (answer.refused k p, s, G) = absurd G
 
   refused_says : (n at : ℕ) → Given (Refused n at) → Says text (length before) (answer.refused n at) × (after ≡ before)
   refused_says n at (answer.good g, s, G) = absurd G
@@ -56,32 +56,32 @@ module _ (text before after : List ℕ) where
   compiles bytes {r} c = record {
     is = c;
     written = (
-      λ w. let g = written-says w.0 (subst Given w.1 c.says) in (g.0, taken-exactly.0 g.1),
-      λ t. (length (encode t.0), said-written r t.0 c.says (taken-exactly.1 t.1)),
+      λ w. let g = written_says w.0 (subst Given w.1 c.says) in (g.0, taken_exactly.0 g.1),
+      λ t. (length (encode t.0), said_written r t.0 c.says (taken_exactly.1 t.1)),
     );
     image = λ n e.
-        let g = written-says n (subst Given e c.says) in
-        (g.0, taken-exactly.0 g.1, g.2, g.3 ∙ ap (λ k. encode g.0 ++ drop k before) (sym g.2));
-    means = λ n g e t. let s = taken-exactly.1 t in (good-read bytes s, good-means s);
+        let g = written_says n (subst Given e c.says) in
+        (g.0, taken_exactly.0 g.1, g.2, g.3 ∙ ap (λ k. encode g.0 ++ drop k before) (sym g.2));
+    means = λ n g e t. let s = taken_exactly.1 t in (good_read bytes s, good_means s);
     refused = λ number. (
-      λ w. refused-exactly.0 (w.0, (refused_says number w.0 (subst Given w.1 c.says)).0),
-      λ d. let p = refused-exactly.1 d in (p.0, said-refused r number p.0 c.says p.1),
+      λ w. refused_exactly.0 (w.0, (refused_says number w.0 (subst Given w.1 c.says)).0),
+      λ d. let p = refused_exactly.1 d in (p.0, said_refused r number p.0 c.says p.1),
     );
     untouched = λ number at e. refused_says number at (subst Given e c.says);
   }
 
 -- `compile`: TWO OUTCOMES THAT ITS PROMISE PERMITS ARE EQUAL.
-pub one-outcome : {text before after after' : List ℕ} {r r' : Compiled} → Compiles text before after r → Compiles text before after' r' → (r ≡ r') × (after ≡ after')
-one-outcome h h' = one-given h.is h'.is
+pub one_outcome : {text before after after' : List ℕ} {r r' : Compiled} → Compiles text before after r → Compiles text before after' r' → (r ≡ r') × (after ≡ after')
+one_outcome h h' = one_given h.is h'.is
 
 -- `yarnspire_compile`
-pub one-triple :
+pub one_triple :
     {text before after after' : List ℕ} {n n' l l' a a' : ℕ} → ThreeNumbers text before after n l a → ThreeNumbers text before after' n' l' a'
     → (n ≡ n') × (l ≡ l') × (a ≡ a') × (after ≡ after')
-one-triple h h' =
-    let e = one-outcome h.compiles h'.compiles in (
+one_triple h h' =
+    let e = one_outcome h.compiles h'.compiles in (
       h.number_is ∙ ap number_of e.0 ∙ sym h'.number_is,
-      h.length-is ∙ ap length_of e.0 ∙ sym h'.length-is,
-      h.at-is ∙ ap atOf e.0 ∙ sym h'.at-is,
+      h.length_is ∙ ap length_of e.0 ∙ sym h'.length_is,
+      h.at_is ∙ ap atOf e.0 ∙ sym h'.at_is,
       e.1,
     )

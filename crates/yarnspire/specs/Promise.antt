@@ -1,7 +1,7 @@
 -- What the public functions promise, for every image, input, limits and slot buffer.
 use Rattle.std.specs.Prelude.{ℕ, ◌≤◌, ◌≡◌, List, ◌↔◌, ◌⊎◌, length, take}
 use Rattle.grammar.specs.Grammar.{Grammar}
-use Rattle.format.specs.Image.{readImage}
+use Rattle.format.specs.Image.{read_image}
 use Rattle.format.specs.RoundTrip.{Stands, Refuses}
 use Rattle.meaning.specs.Outcome.{Outcome}
 use Rattle.meaning.specs.Cost.{Cost}
@@ -10,12 +10,12 @@ use Rattle.meaning.specs.Demands.{Entered, Recognises, Derivable, Stops, Demand2
 use Rattle.yarnspire.specs.declared.answer.Verdict.{Verdict}
 use Rattle.yarnspire.specs.declared.answer.Verdict.TheVariants.{Good, Refused as Faulty}
 use Rattle.yarnspire.specs.declared.answer.Answer as code
-use Rattle.yarnspire.specs.Answer.{verdictOf, number_of, place_of, numbers, Kind, sixOf, Listed}
+use Rattle.yarnspire.specs.Answer.{verdict_of, number_of, place_of, numbers, Kind, six_of, Listed}
 
 -- Check. The case, the number and the place are what reading the image front to back finds; in words: it is good exactly if the image is
 -- the writing of a sound grammar and at most 16,384 bytes long, and a refusal is one of 1 to 8 with what `Refuses` says of its place.
 pub record Checks (image : List ℕ) (r : Verdict) : Type 0 where
-  pub is : r ≡ verdictOf (readImage image)
+  pub is : r ≡ verdict_of (read_image image)
   pub good : (r ≡ Good) ↔ ((g : Grammar) × Stands image g)
   pub refused : (number place : ℕ) → r ≡ Faulty number place → Refuses image number place
 
@@ -34,7 +34,7 @@ pub record Answers (image input : List ℕ) (B D R : ℕ) (before after : List �
   pub kind : Kind a.kind
   pub inside : a.consumed ≤ length input
   -- Either the entry checks pass, or the answer is one of 1 to 11: all zero but number and place, and the slots untouched. (Which check gives
-  -- which number: `image-refused`, `input-refused`, `limits-refused`, `slots-refused` in `Demands`.)
+  -- which number: `image_refused`, `input_refused`, `limits_refused`, `slots_refused` in `Demands`.)
   pub entry : ((g : Grammar) × Entered image g input B D R before)
       ⊎ ((n place : ℕ) × (1 ≤ n) × (n ≤ 11) × (a ≡ numbers n 0 0 0 0 place) × (after ≡ before))
   -- Of the rules alone: at most one outcome and cost can be derived (`unique` in `meaning`: there is at most one derivation), and there is one
@@ -46,12 +46,12 @@ pub record Answers (image input : List ℕ) (B D R : ℕ) (before after : List �
   pub fixed : (g : Grammar) → Entered image g input B D R before → Fixed g input B D R before (record { answer = a; slots = after })
   -- The same as the demands put it: accepted n, or failed, exactly if there is a derivation of that within the limits, refused 12 to 15
   -- exactly if there is none.
-  pub demand-2 : (g : Grammar) → Entered image g input B D R before → Demand2 g input B D R a
-  pub demand-3 : (g : Grammar) → Entered image g input B D R before → Demand3 g input B D R a before after
+  pub demand_2 : (g : Grammar) → Entered image g input B D R before → Demand2 g input B D R a
+  pub demand_3 : (g : Grammar) → Entered image g input B D R before → Demand3 g input B D R a before after
 
 -- As an enum: its six numbers, and a refusal's number is never one that stands for accepted or failed.
 pub record Recognised (image input : List ℕ) (B D R : ℕ) (before after : List ℕ) (r : code.Answer) : Type 0 where
-  pub answers : Answers image input B D R before after (sixOf r)
+  pub answers : Answers image input B D R before after (six_of r)
   pub listed : Listed r
 
 -- With the accepted text: the input's first bytes, as many as are consumed, and none where nothing is accepted.

@@ -3,67 +3,67 @@ use Rattle.std.specs.Prelude.{ℕ, ◌+◌, ◌*◌, ◌≤◌, ◌<◌, ◌≡�
 use Rattle.std.proofs.Common.{ap, sym, ◌∙◌, subst, inl, inr, arith, length-set, get_or-set_other, get_or-set_same, length-take-le}
 use Rattle.grammar.specs.Grammar.{Grammar, node}
 use Rattle.grammar.specs.Sound.{Bytes}
-use Rattle.format.specs.Image.{Checked, good, refused, readImage}
+use Rattle.format.specs.Image.{Checked, good, refused, read_image}
 use Rattle.format.specs.RoundTrip as round
 use Rattle.image.specs.Filled.{Loads}
 use Rattle.image.specs.Meant.{answered, verdict}
 use Rattle.image.specs.declared.walk.Verdict.{Verdict as Said}
-use Rattle.image.specs.Node.{node_of, exprOf, InImage}
+use Rattle.image.specs.Node.{node_of, expr_of, InImage}
 use Rattle.reader.specs.declared.number.Refusal.{Refusal}
 use Rattle.image.specs.declared.walk.Loaded.{Loaded}
 use Rattle.image.specs.declared.walk.Loaded.TheVariants.{Good as Whole, Refused as Bad}
 use Rattle.meaning.specs.State.{outset}
 use Rattle.meaning.specs.Unique.{true≢false}
-use Rattle.meaning.specs.Exact.{exact, cut-exactly, at_most_one}
+use Rattle.meaning.specs.Exact.{exact, cut_exactly, at_most_one}
 use Rattle.meaning.specs.Outcome.{pass, fail}
 use Rattle.meaning.specs.Cost.{Cost}
 use Rattle.meaning.specs.Run.{Result, ran, refused as stopped}
-use Rattle.meaning.specs.Forward.{forward, ahead-pass}
-use Rattle.meaning.specs.Recognise.{Answer, allowed, answer_of, refusal, slotsAfter, fromStart, recognise}
+use Rattle.meaning.specs.Forward.{forward, ahead_pass}
+use Rattle.meaning.specs.Recognise.{Answer, allowed, answer_of, refusal, slots_after, from_start, recognise}
 use Rattle.meaning.specs.Demands as d
-use Rattle.machine.specs.Ready.{ofChecked, grammarOf, stepLimit, depthLimit, roomLimit, Coded}
+use Rattle.machine.specs.Ready.{of_checked, grammar_of, step_limit, depth_limit, room_limit, Coded}
 use Rattle.yarnspire.specs.declared.answer.Verdict.{Verdict}
 use Rattle.yarnspire.specs.declared.answer.Verdict.TheVariants.{Good, Refused as Faulty}
 use Rattle.yarnspire.specs.declared.answer.Answer as code
 use Rattle.yarnspire.specs.declared.answer.Answer.TheVariants.{Refused}
-use Rattle.yarnspire.specs.Answer.{verdictOf, numbers, Kind, sixOf, Listed}
-use Rattle.yarnspire.specs.Ended.{Runs, leftBy, result_of, Ran}
-use Rattle.yarnspire.specs.EndLaws.{left-and-rest}
+use Rattle.yarnspire.specs.Answer.{verdict_of, numbers, Kind, six_of, Listed}
+use Rattle.yarnspire.specs.Ended.{Runs, left_by, result_of, Ran}
+use Rattle.yarnspire.specs.EndLaws.{left_and_rest}
 use Rattle.yarnspire.specs.Promise.{Checks, Answers, Recognised}
 
 -- ## Check
 
 module _ (image : List ℕ) (bytes : Bytes image) where
-  pub checks : {r : Verdict} → r ≡ verdictOf (readImage image) → Checks image r
+  pub checks : {r : Verdict} → r ≡ verdict_of (read_image image) → Checks image r
   checks {r} e = record {
     is = e;
-    good = ((λ h. stands (readImage image) refl (sym e ∙ h)), λ h. e ∙ ap verdictOf ((round.exact image bytes h.0).1 h.1));
-    refused = λ n p h. round.refusal image bytes n p (faulty (readImage image) (sym e ∙ h));
+    good = ((λ h. stands (read_image image) refl (sym e ∙ h)), λ h. e ∙ ap verdict_of ((round.exact image bytes h.0).1 h.1));
+    refused = λ n p h. round.refusal image bytes n p (faulty (read_image image) (sym e ∙ h));
   }
     where
-      stands : (k : Checked) → readImage image ≡ k → verdictOf k ≡ Good → (g : Grammar) × round.Stands image g
+      stands : (k : Checked) → read_image image ≡ k → verdict_of k ≡ Good → (g : Grammar) × round.Stands image g
       stands (good g) q h = (g, (round.exact image bytes g).0 q)
       stands (refused n p) q h = let z : ◌≡◌ {A = ℕ} 0 1 = cc in absurd (omega arith)
 
-      faulty : (k : Checked) {n p : ℕ} → verdictOf k ≡ Faulty n p → k ≡ refused n p
+      faulty : (k : Checked) {n p : ℕ} → verdict_of k ≡ Faulty n p → k ≡ refused n p
       faulty (good g) h = let z : ◌≡◌ {A = ℕ} 0 1 = cc in absurd (omega arith)
       faulty (refused m q) h = cc
 
   -- Number 0 is good, and no other.
-  pub is-good : {v : Said} → v ≡ verdict (readImage image) → v.number ≡ 0 → Good ≡ verdictOf (readImage image)
-  is-good {v} e z = go (readImage image) refl (ap (λ v. v.number) (sym e) ∙ z)
+  pub is_good : {v : Said} → v ≡ verdict (read_image image) → v.number ≡ 0 → Good ≡ verdict_of (read_image image)
+  is_good {v} e z = go (read_image image) refl (ap (λ v. v.number) (sym e) ∙ z)
     where
-      go : (k : Checked) → readImage image ≡ k → (verdict k).number ≡ 0 → Good ≡ verdictOf k
+      go : (k : Checked) → read_image image ≡ k → (verdict k).number ≡ 0 → Good ≡ verdict_of k
       go (good g) q h = refl
       go (refused n p) q h = absurd (omega (arith, (round.refusal image bytes n p q).least))
 
   -- The place of a fault fits 32 bits.
-  pub fault-small : {n p : ℕ} → readImage image ≡ refused n p → p ≤ 16384
-  fault-small {n} {p} e = (round.refusal image bytes n p e).small
+  pub fault_small : {n p : ℕ} → read_image image ≡ refused n p → p ≤ 16384
+  fault_small {n} {p} e = (round.refusal image bytes n p e).small
 
-pub is-faulty : (k : Checked) {v : Said} → v ≡ verdict k → (v.number ≡ 0 → ⊥) → Faulty v.number v.place ≡ verdictOf k
-is-faulty (good g) e f = absurd (f (ap (λ v. v.number) e))
-is-faulty (refused n p) e f = λ i. Faulty (e i).number (e i).place
+pub is_faulty : (k : Checked) {v : Said} → v ≡ verdict k → (v.number ≡ 0 → ⊥) → Faulty v.number v.place ≡ verdict_of k
+is_faulty (good g) e f = absurd (f (ap (λ v. v.number) e))
+is_faulty (refused n p) e f = λ i. Faulty (e i).number (e i).place
 
 -- ## Recognise
 
@@ -75,20 +75,20 @@ permitted {ok = ok} e h = d.of_range (sym e ∙ go ok h)
     go false h = absurd (true≢false h)
 
 pub disallowed : {B D R : ℕ} {ok : Bool} → ok ≡ allowed B D R → not ok ≡ true → ¬ (d.Ranges B D R)
-disallowed e h r = true≢false (sym h ∙ ap not (e ∙ d.in-range r))
+disallowed e h r = true≢false (sym h ∙ ap not (e ∙ d.in_range_lem r))
 
 -- What is consumed is a front of the input; what a run comes to is derived or cut short.
-inside-start : (g : Grammar) (input : List ℕ) (B D R : ℕ) (r : Result) → fromStart g input B D R ≡ r → (answer_of r).consumed ≤ length input
-inside-start g input B D R (ran (pass n τ) c) e =
-    (ahead-pass (forward g input ((exact g input outset (node g g.start) 0 [] R D B (pass n τ) c).0 e).0 (omega arith))).1
-inside-start g input B D R (ran fail c) e = omega arith
-inside-start g input B D R (stopped n p c) e = omega arith
+inside_start : (g : Grammar) (input : List ℕ) (B D R : ℕ) (r : Result) → from_start g input B D R ≡ r → (answer_of r).consumed ≤ length input
+inside_start g input B D R (ran (pass n τ) c) e =
+    (ahead_pass (forward g input ((exact g input outset (node g g.start) 0 [] R D B (pass n τ) c).0 e).0 (omega arith))).1
+inside_start g input B D R (ran fail c) e = omega arith
+inside_start g input B D R (stopped n p c) e = omega arith
 
-ends-start : (g : Grammar) (input : List ℕ) (B D R : ℕ) (r : Result) → fromStart g input B D R ≡ r
+ends_start : (g : Grammar) (input : List ℕ) (B D R : ℕ) (r : Result) → from_start g input B D R ≡ r
     → d.Derivable g input B D R ⊎ ((n place : ℕ) × (c : Cost) × d.Stops g input B D R n place c)
-ends-start g input B D R (ran o c) e =
+ends_start g input B D R (ran o c) e =
     let w = (exact g input outset (node g g.start) 0 [] R D B o c).0 e in inl (o, c, w.0, w.1)
-ends-start g input B D R (stopped n p c) e = inr (n, p, c, (cut-exactly g input outset (node g g.start) 0 [] R D B n p c).0 e)
+ends_start g input B D R (stopped n p c) e = inr (n, p, c, (cut_exactly g input outset (node g g.start) 0 [] R D B n p c).0 e)
 
 pub answers : {image input : List ℕ} {B D R : ℕ} {before after : List ℕ} {a : Answer} → Bytes image
     → record { answer = a; slots = after } ≡ recognise image input B D R before → Answers image input B D R before after a
@@ -98,10 +98,10 @@ answers {image} {input} {B} {D} {R} {before} {after} {a} bytes e = record {
   inside = subst (λ k. k.answer.consumed ≤ length input) (sym e) (inside (d.answered image input B D R before bytes));
   entry = entry (d.answered image input B D R before bytes);
   once = λ g. at_most_one g input outset (node g g.start) 0 [];
-  ends = λ g. ends-start g input B D R (fromStart g input B D R) refl;
+  ends = λ g. ends_start g input B D R (from_start g input B D R) refl;
   fixed = λ g E. subst (d.Fixed g input B D R before) (sym e) (d.fixed E);
-  demand-2 = λ g E. subst (λ k. d.Demand2 g input B D R k.answer) (sym e) (d.demand-2 E);
-  demand-3 = λ g E. subst (λ k. d.Demand3 g input B D R k.answer before k.slots) (sym e) (d.demand-3 E);
+  demand_2 = λ g E. subst (λ k. d.Demand2 g input B D R k.answer) (sym e) (d.demand_2 E);
+  demand_3 = λ g E. subst (λ k. d.Demand3 g input B D R k.answer before k.slots) (sym e) (d.demand_3 E);
 }
   where
     Said : Type 0
@@ -109,7 +109,7 @@ answers {image} {input} {B} {D} {R} {before} {after} {a} bytes e = record {
         ⊎ ((n place : ℕ) × (1 ≤ n) × (n ≤ 11) × (recognise image input B D R before ≡ refusal n place before))
 
     inside : Said → (recognise image input B D R before).answer.consumed ≤ length input
-    inside (inl h) = rw (d.runs h.1) (inside-start h.0 input B D R (fromStart h.0 input B D R) refl)
+    inside (inl h) = rw (d.runs h.1) (inside_start h.0 input B D R (from_start h.0 input B D R) refl)
     inside (inr h) = rw h.4 (omega arith)
 
     entry : Said → ((g : Grammar) × d.Entered image g input B D R before)
@@ -126,29 +126,29 @@ written {image} {input} {B} {D} {R} {before} {after} e h = subst (Answers image 
 pub refuses : {image input : List ℕ} {B D R : ℕ} {slots : List ℕ} {r : code.Answer} (n place : ℕ) → Bytes image → r ≡ Refused n place 0 0
     → 1 ≤ n → n ≤ 15 → recognise image input B D R slots ≡ refusal n place slots → Recognised image input B D R slots slots r
 refuses {slots = slots} n place bytes e l m q = record {
-  answers = answers bytes (ap (λ a. record { answer = sixOf a; slots = slots }) e ∙ sym q);
+  answers = answers bytes (ap (λ a. record { answer = six_of a; slots = slots }) e ∙ sym q);
   listed = subst Listed (sym e) (l, m);
 }
 
 -- ## What the walk over the image found
 
-pub found-fault : (k : Checked) {r : Loaded} {f : Refusal} → r ≡ Bad f → r ≡ answered k → k ≡ refused f.number f.place
-found-fault (good g) e h = let z : ◌≡◌ {A = ℕ} 0 1 = cc in absurd (omega arith)
-found-fault (refused n p) {f = f} e h =
+pub found_fault : (k : Checked) {r : Loaded} {f : Refusal} → r ≡ Bad f → r ≡ answered k → k ≡ refused f.number f.place
+found_fault (good g) e h = let z : ◌≡◌ {A = ℕ} 0 1 = cc in absurd (omega arith)
+found_fault (refused n p) {f = f} e h =
     let q : record { number = n; place = p } ≡ f = cc in
     λ i. refused (q i).number (q i).place
 
-pub found-good : (k : Checked) {r : Loaded} {t c n s : ℕ} → r ≡ Whole t c n s → r ≡ answered k → (g : Grammar) × (k ≡ good g) × (s ≡ g.start)
-found-good (good g) e h = (g, refl, cc)
-found-good (refused n p) e h = let z : ◌≡◌ {A = ℕ} 0 1 = cc in absurd (omega arith)
+pub found_good : (k : Checked) {r : Loaded} {t c n s : ℕ} → r ≡ Whole t c n s → r ≡ answered k → (g : Grammar) × (k ≡ good g) × (s ≡ g.start)
+found_good (good g) e h = (g, refl, cc)
+found_good (refused n p) e h = let z : ◌≡◌ {A = ℕ} 0 1 = cc in absurd (omega arith)
 
-pub grammar-is : (image : List ℕ) (g : Grammar) → readImage image ≡ good g → grammarOf image ≡ g
-unfolding grammarOf
-grammar-is image g e = ap ofChecked e
+pub grammar_is : (image : List ℕ) (g : Grammar) → read_image image ≡ good g → grammar_of image ≡ g
+unfolding grammar_of
+grammar_is image g e = ap of_checked e
 
 -- ## The run
 
-module _ {image : List ℕ} {g : Grammar} (e : readImage image ≡ good g) (bytes : Bytes image) {before array : List ℕ} {r : Loaded} (loads : Loads image before array r)
+module _ {image : List ℕ} {g : Grammar} (e : read_image image ≡ good g) (bytes : Bytes image) {before array : List ℕ} {r : Loaded} (loads : Loads image before array r)
     (B D R : ℕ) (long : length array ≡ 524) where
   abbrev limited : List ℕ
   limited = set (set (set (set array 520 B) 521 D) 522 R) 523 (length image)
@@ -159,20 +159,20 @@ module _ {image : List ℕ} {g : Grammar} (e : readImage image ≡ good g) (byte
       ∙ get_or-set_other (set (set array 520 B) 521 D) 522 n R 0 (λ z. omega arith)
       ∙ get_or-set_other (set array 520 B) 521 n D 0 (λ z. omega arith) ∙ get_or-set_other array 520 n B 0 (λ z. omega arith)
 
-  steps-set : stepLimit limited ≡ B
-  steps-set =
+  steps_set : step_limit limited ≡ B
+  steps_set =
       get_or-set_other (set (set (set array 520 B) 521 D) 522 R) 523 520 (length image) 0 (λ z. omega arith)
       ∙ get_or-set_other (set (set array 520 B) 521 D) 522 520 R 0 (λ z. omega arith)
       ∙ get_or-set_other (set array 520 B) 521 520 D 0 (λ z. omega arith) ∙ get_or-set_same array 520 B 0 (omega arith)
 
-  depth-set : depthLimit limited ≡ D
-  depth-set =
+  depth_set : depth_limit limited ≡ D
+  depth_set =
       get_or-set_other (set (set (set array 520 B) 521 D) 522 R) 523 521 (length image) 0 (λ z. omega arith)
       ∙ get_or-set_other (set (set array 520 B) 521 D) 522 521 R 0 (λ z. omega arith)
       ∙ get_or-set_same (set array 520 B) 521 D 0 (rw (length-set array 520 B) (omega arith))
 
-  room-set : roomLimit limited ≡ R
-  room-set =
+  room_set : room_limit limited ≡ R
+  room_set =
       get_or-set_other (set (set (set array 520 B) 521 D) 522 R) 523 522 (length image) 0 (λ z. omega arith)
       ∙ get_or-set_same (set (set array 520 B) 521 D) 522 R 0 (rw (length-set (set array 520 B) 521 D, length-set array 520 B) (omega arith))
 
@@ -186,37 +186,37 @@ module _ {image : List ℕ} {g : Grammar} (e : readImage image ≡ good g) (byte
       let s = ((round.exact image bytes g).0 e).sound in
       record {
         sound = s;
-        nodes = λ n h. ap (λ w. exprOf image (node_of w)) (unlimited n (omega (arith, s.few-nodes))) ∙ loads.nodes g e n h;
-        texts = λ n h. subst (λ w. InImage image (node_of w)) (sym (unlimited n (omega (arith, s.few-nodes)))) (loads.texts g e n h);
-        patterns = λ t h. unlimited (512 + t) (omega (arith, s.few-tables)) ∙ loads.patterns g e t h;
+        nodes = λ n h. ap (λ w. expr_of image (node_of w)) (unlimited n (omega (arith, s.few_nodes))) ∙ loads.nodes g e n h;
+        texts = λ n h. subst (λ w. InImage image (node_of w)) (sym (unlimited n (omega (arith, s.few_nodes)))) (loads.texts g e n h);
+        patterns = λ t h. unlimited (512 + t) (omega (arith, s.few_tables)) ∙ loads.patterns g e t h;
       }
 
   module _ {input slots : List ℕ} (E : d.Entered image g input B D R slots) where
     -- The run may be asked for;
-    pub run-asks : {start : ℕ} → start ≡ g.start → Bytes input → Runs limited image input (take (R * 3) slots) start
-    run-asks h only =
-        let q = sym (grammar-is image g e) in
+    pub run_asks : {start : ℕ} → start ≡ g.start → Bytes input → Runs limited image input (take (R * 3) slots) start
+    run_asks h only =
+        let q = sym (grammar_is image g e) in
         record {
           counted = count_set;
           small = ((round.exact image bytes g).0 e).short;
           bytes = only;
           coded = subst (Coded image limited) q coded;
           begins = h ∙ ap (λ g. g.start) q;
-          short = E.input-short;
-          ranges = rw (steps-set, depth-set, room-set) E.ranges;
-          lent = rw room-set (length-take-le (R * 3) slots (omega (arith, E.slots-enough)));
+          short = E.input_short;
+          ranges = rw (steps_set, depth_set, room_set) E.ranges;
+          lent = rw room_set (length-take-le (R * 3) slots (omega (arith, E.slots_enough)));
         }
 
     -- and what it gives is the promise.
-    pub run-gives : {after : List ℕ} {a : code.Answer} → Ran limited image input after a
+    pub run_gives : {after : List ℕ} {a : code.Answer} → Ran limited image input after a
         → Recognised image input B D R slots (after ++ drop (R * 3) slots) a
-    run-gives {after} {a} left_by =
-        let X = fromStart g input B D R in
-        let is-run : result_of limited image input ≡ X = rw (grammar-is image g e, steps-set, depth-set, room-set) in
+    run_gives {after} {a} left_here =
+        let X = from_start g input B D R in
+        let is_run : result_of limited image input ≡ X = rw (grammar_is image g e, steps_set, depth_set, room_set) in
         let three : R * 3 ≡ 3 * R = omega arith in
-        let left : after ++ drop (R * 3) slots ≡ slotsAfter R X slots = ap (λ l. l ++ drop (R * 3) slots) (left_by.leaves ∙ ap (λ n. leftBy n (result_of limited image input)) room-set ∙ ap (leftBy R) is-run)
-        ∙ ap (λ n. leftBy R X ++ drop n slots) three ∙ left-and-rest R X slots in
+        let left : after ++ drop (R * 3) slots ≡ slots_after R X slots = ap (λ l. l ++ drop (R * 3) slots) (left_here.leaves ∙ ap (λ n. left_by n (result_of limited image input)) room_set ∙ ap (left_by R) is_run)
+        ∙ ap (λ n. left_by R X ++ drop n slots) three ∙ left_and_rest R X slots in
         record {
-          answers = answers bytes ((λ i. record { answer = (left_by.answers ∙ ap answer_of is-run) i; slots = left i }) ∙ sym (d.runs E));
-          listed = left_by.listed;
+          answers = answers bytes ((λ i. record { answer = (left_here.answers ∙ ap answer_of is_run) i; slots = left i }) ∙ sym (d.runs E));
+          listed = left_here.listed;
         }

@@ -5,19 +5,19 @@ use Rattle.std.proofs.Common.{ap, sym, ◌∙◌, inl, inr, arith}
 use Rattle.grammar.specs.Grammar.{Grammar}
 use Rattle.meaning.specs.State.{State}
 use Rattle.meaning.specs.Recognise as m
-use Rattle.meaning.specs.Demands.{Ranges, Entered, raised-limits}
+use Rattle.meaning.specs.Demands.{Ranges, Entered, raised_limits}
 use Rattle.yarnspire.specs.declared.answer.Answer.{Answer}
-use Rattle.yarnspire.specs.Answer.{numbers, sixOf}
+use Rattle.yarnspire.specs.Answer.{numbers, six_of}
 use Rattle.yarnspire.specs.Promise.{Answers, Recognised, Texts}
 use Rattle.yarnspire.specs.Unique.{same_answer}
 
 -- Limits that are raised within their ranges, and slots to match.
 pub record Raises (B D R B' D' R' : ℕ) (slots : List ℕ) : Type 0 where
-  pub more-steps : B ≤ B'
-  pub more-depth : D ≤ D'
+  pub more_steps : B ≤ B'
+  pub more_depth : D ≤ D'
   pub more_room : R ≤ R'
   pub ranges : Ranges B' D' R'
-  pub slots-enough : 3 * R' ≤ length slots
+  pub slots_enough : 3 * R' ≤ length slots
 
 -- An answer that was accepted or failed.
 abbrev pub Settled : m.Answer → Type 0
@@ -33,9 +33,9 @@ module _ {image input : List ℕ} {B D R B' D' R' : ℕ} {before after before' a
       old : a ≡ (m.recognise image input B D R before).answer
       old = ap (λ k. k.answer) h.is
 
-      as-kind : {k : ℕ} → k ≡ a.kind → Settled a → (k ≡ 0) ⊎ (k ≡ 99)
-      as-kind e (inl z) = inl (e ∙ z)
-      as-kind e (inr z) = inr (e ∙ z)
+      as_kind : {k : ℕ} → k ≡ a.kind → Settled a → (k ≡ 0) ⊎ (k ≡ 99)
+      as_kind e (inl z) = inl (e ∙ z)
+      as_kind e (inr z) = inr (e ∙ z)
 
       unsettled : (n place : ℕ) → 1 ≤ n → n ≤ 11 → a ≡ numbers n 0 0 0 0 place → Settled a → ⊥
       unsettled n place l m e (inl z) = omega (arith, ap (λ a. a.kind) e)
@@ -46,12 +46,12 @@ module _ {image input : List ℕ} {B D R B' D' R' : ℕ} {before after before' a
           → (a' ≡ a) × (τ : State) × (length τ ≡ a.symbols) × (after ≡ m.filled R τ before) × (after' ≡ m.filled R' τ before')
       go (inl E) =
           let E' : Entered image E.0 input B' D' R' before' = record {
-            image-good = E.1.image-good;
-            input-short = E.1.input-short;
+            image_good = E.1.image_good;
+            input_short = E.1.input_short;
             ranges = r.ranges;
-            slots-enough = r.slots-enough;
+            slots_enough = r.slots_enough;
           } in
-          let w = raised-limits E.1 E' r.more-steps r.more-depth r.more_room (as-kind (sym (ap (λ a. a.kind) old)) settled) in (
+          let w = raised_limits E.1 E' r.more_steps r.more_depth r.more_room (as_kind (sym (ap (λ a. a.kind) old)) settled) in (
             ap (λ k. k.answer) h'.is ∙ w.0 ∙ sym old,
             w.1,
             w.2 ∙ sym (ap (λ a. a.symbols) old),
@@ -61,12 +61,12 @@ module _ {image input : List ℕ} {B D R B' D' R' : ℕ} {before after before' a
       go (inr w) = absurd (unsettled w.0 w.1 w.2 w.3 w.4 settled)
 
   -- So is the answer of recognise,
-  pub raised-answer : {r r' : Answer} → Recognised image input B D R before after r → Settled (sixOf r) → Raises B D R B' D' R' before'
+  pub raised_answer : {r r' : Answer} → Recognised image input B D R before after r → Settled (six_of r) → Raises B D R B' D' R' before'
       → Recognised image input B' D' R' before' after' r' → r' ≡ r
-  raised-answer {r} {r'} h settled l h' = same_answer r' r h'.listed h.listed (raised h.answers settled l h'.answers).0
+  raised_answer {r} {r'} h settled l h' = same_answer r' r h'.listed h.listed (raised h.answers settled l h'.answers).0
 
   -- and the accepted text.
-  pub raised-text : {a a' : m.Answer} {t t' : List ℕ} → Texts image input B D R before after a t → Settled a → Raises B D R B' D' R' before'
+  pub raised_text : {a a' : m.Answer} {t t' : List ℕ} → Texts image input B D R before after a t → Settled a → Raises B D R B' D' R' before'
       → Texts image input B' D' R' before' after' a' t' → t' ≡ t
-  raised-text h settled l h' =
+  raised_text h settled l h' =
       h'.front ∙ ap (λ a. take a.consumed input) (raised h.answers settled l h'.answers).0 ∙ sym h.front

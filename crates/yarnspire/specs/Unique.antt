@@ -5,21 +5,21 @@ use Rattle.meaning.specs.Recognise as m
 use Rattle.yarnspire.specs.declared.answer.Verdict.{Verdict}
 use Rattle.yarnspire.specs.declared.answer.Answer.{Answer}
 use Rattle.yarnspire.specs.declared.answer.Answer.TheVariants.{Accepted, Failed, Refused}
-use Rattle.yarnspire.specs.Answer.{number_of, place_of, sixOf, Listed}
+use Rattle.yarnspire.specs.Answer.{number_of, place_of, six_of, Listed}
 use Rattle.yarnspire.specs.Promise.{Checks, Numbers, Answers, Recognised, Texts}
 
 -- `check`
-pub one-verdict : {image : List ℕ} {r r' : Verdict} → Checks image r → Checks image r' → r ≡ r'
-one-verdict h h' = h.is ∙ sym h'.is
+pub one_verdict : {image : List ℕ} {r r' : Verdict} → Checks image r → Checks image r' → r ≡ r'
+one_verdict h h' = h.is ∙ sym h'.is
 
 -- `yarnspire_check`
-pub one-pair : {image : List ℕ} {n n' p p' : ℕ} → Numbers image n p → Numbers image n' p' → (n ≡ n') × (p ≡ p')
-one-pair h h' =
-    let e = one-verdict h.checks h'.checks in
+pub one_pair : {image : List ℕ} {n n' p p' : ℕ} → Numbers image n p → Numbers image n' p' → (n ≡ n') × (p ≡ p')
+one_pair h h' =
+    let e = one_verdict h.checks h'.checks in
     (h.number_is ∙ ap number_of e ∙ sym h'.number_is, h.place_is ∙ ap place_of e ∙ sym h'.place_is)
 
 -- An answer's six numbers fix the answer, if a refusal's number is one of the list.
-pub same_answer : (r r' : Answer) → Listed r → Listed r' → sixOf r ≡ sixOf r' → r ≡ r'
+pub same_answer : (r r' : Answer) → Listed r → Listed r' → six_of r ≡ six_of r' → r ≡ r'
 same_answer (Accepted n s d h) (Accepted n' s' d' h') l l' e = λ i. Accepted (e i).consumed (e i).steps (e i).depth (e i).symbols
 same_answer (Accepted n s d h) (Failed s' d') l l' e = absurd (omega (arith, ap (λ a. a.kind) e))
 same_answer (Accepted n s d h) (Refused k p s' d') l l' e = absurd (omega (arith, ap (λ a. a.kind) e, l'.0))
@@ -37,14 +37,14 @@ module _ {image input : List ℕ} {B D R : ℕ} {before after after' : List ℕ}
   one_answer h h' = let e = h.is ∙ sym h'.is in (ap (λ k. k.answer) e, ap (λ k. k.slots) e)
 
   -- `recognise`: the answer and every slot.
-  pub one-recognised : {r r' : Answer} → Recognised image input B D R before after r → Recognised image input B D R before after' r'
+  pub one_recognised : {r r' : Answer} → Recognised image input B D R before after r → Recognised image input B D R before after' r'
       → (r ≡ r') × (after ≡ after')
-  one-recognised {r} {r'} h h' =
+  one_recognised {r} {r'} h h' =
       let e = one_answer h.answers h'.answers in (same_answer r r' h.listed h'.listed e.0, e.1)
 
   -- `accepted_text`: the six numbers, every slot and the text's bytes.
-  pub one-text : {a a' : m.Answer} {t t' : List ℕ} → Texts image input B D R before after a t → Texts image input B D R before after' a' t'
+  pub one_text : {a a' : m.Answer} {t t' : List ℕ} → Texts image input B D R before after a t → Texts image input B D R before after' a' t'
       → (a ≡ a') × (after ≡ after') × (t ≡ t')
-  one-text h h' =
+  one_text h h' =
       let e = one_answer h.answers h'.answers in
       (e.0, e.1, h.front ∙ ap (λ a. take a.consumed input) e.0 ∙ sym h'.front)

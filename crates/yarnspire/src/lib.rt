@@ -3,7 +3,7 @@
 // Four operations, which take every text, image, input, limits and buffer, of any length, and ask nothing of their caller: `compile`, `check`, `recognise` and
 // `accepted_text`. For C and Rust: `yarnspire_compile`, `yarnspire_check` and `yarnspire_recognise`.
 ghost use Rattle.std.specs.Prelude.{◌≡◌};
-ghost use Rattle.yarnspire.specs.Answer.{sixOf, numbers};
+ghost use Rattle.yarnspire.specs.Answer.{six_of, numbers};
 ghost use Rattle.yarnspire.specs.Promise.{Checks, Numbers, Answers, Recognised, Texts};
 
 mod answer;
@@ -90,7 +90,7 @@ fn write(
     symbols: &mut u32,
     place: &mut u32,
 )
-    ensures { numbers kind.new consumed.new count.new deepest.new symbols.new place.new ≡ sixOf answer }
+    ensures { numbers kind.new consumed.new count.new deepest.new symbols.new place.new ≡ six_of answer }
 {
     match answer {
         Answer::Accepted {

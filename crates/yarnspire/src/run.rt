@@ -2,7 +2,7 @@
 ghost use Rattle.std.specs.Prelude.{◌≡◌, ◌++◌, ◌-◌, length, take, replicate};
 ghost use Rattle.meaning.specs.Recognise.{allowed as Recognise·allowed};
 ghost use Rattle.parts.specs.Packed.{opened_of};
-ghost use Rattle.yarnspire.specs.Ended.{answerFor, keptOf, Kept, Runs, Ran};
+ghost use Rattle.yarnspire.specs.Ended.{answer_for, kept_of, Kept, Runs, Ran};
 
 use crate::answer::Answer;
 use kinds::state::State;
@@ -36,7 +36,7 @@ pub(crate) fn allowed(steps: u32, depth: u32, room: u32) -> bool
 // What an outcome answers; the slots get its symbols from the store, and zeros follow.
 fn ended(slots: &mut [u32], store: &[u32; 768], r: u64) -> Answer
     requires { Kept (length slots.old) (opened_of r) }
-    ensures { (result ≡ answerFor (opened_of r)) × (slots.new ≡ take (keptOf (opened_of r)) store.now ++ replicate (length slots.old - keptOf (opened_of r)) 0) }
+    ensures { (result ≡ answer_for (opened_of r)) × (slots.new ≡ take (kept_of (opened_of r)) store.now ++ replicate (length slots.old - kept_of (opened_of r)) 0) }
 {
     let outcome = opened(r);
     match outcome {

@@ -15,11 +15,11 @@ use Rattle.yarnspire.specs.Compile.{Compiles}
 use Rattle.compile.proofs.write.Statement.{statement}
 use Rattle.compile.proofs.write.Tie as tie
 
-front-inside : (front past whole : List ℕ) (n : ℕ) → n ≡ length front → whole ≡ front ++ past → n ≤ length whole
-front-inside front past whole n e f = omega (arith, ap length f, length-append front past)
+front_inside : (front past whole : List ℕ) (n : ℕ) → n ≡ length front → whole ≡ front ++ past → n ≤ length whole
+front_inside front past whole n e f = omega (arith, ap length f, length-append front past)
 
 given_inside : (a : Answer) (before after : List ℕ) (n : ℕ) → Gives a before after (Written n) → n ≤ length after
-given_inside (good g) before after n (e, f) = front-inside (encode g) (drop (length (encode g)) before) after n e f
+given_inside (good g) before after n (e, f) = front_inside (encode g) (drop (length (encode g)) before) after n e f
 given_inside (refused k p) before after n G = absurd G
 
 inside : {text before after : List ℕ} {r : Compiled} {n : ℕ} → Compiles text before after r → r ≡ Written n → n ≤ length after

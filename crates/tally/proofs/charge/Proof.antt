@@ -42,11 +42,11 @@ use denote.Triple.Table.{entered, cited}
 use denote.Triple.Walked.{says, needs, Stays, stay_ref, stay_none, walk_of, Goes-none, Goes-ref, Walks, ends_at, walked, walk_Meets}
 use Rattle.tally.specs.declared.Tally.{Tally}
 use Rattle.tally.specs.contracts.Tally as tally
-use Rattle.tally.proofs.Tally.TheLaws as tally-laws
+use Rattle.tally.proofs.Tally.TheLaws as tally_laws
 use Rattle.tally.specs.contracts.greater as greater
-use Rattle.tally.proofs.greater.Symbol as greater-def
+use Rattle.tally.proofs.greater.Symbol as greater_def
 use Rattle.tally.proofs.greater.Symbol.{name as #greater}
-use Rattle.tally.proofs.greater.Met as greater-thm
+use Rattle.tally.proofs.greater.Met as greater_thm
 use Rattle.tally.specs.contracts.charge.Key.{name as #charge}
 use Rattle.tally.specs.contracts.charge as charge
 use Rattle.tally.proofs.charge.Statement as stated
@@ -66,7 +66,7 @@ module _ {M : Type 1} {𝓤 : Ura M} (𝓛 : Logic 𝓤) (at_mem : Memory → SP
 
 -- The tally h is lent at (b, o) for κ, and d is the depth that is entered.
 module _ {M : Type 1} {𝓤 : Ura M} (𝓛 : Logic 𝓤) (at_mem : Memory → SProp 𝓤) (run : Routine → Fun 𝓤)
-    (κ : Lft) (q : Share) (b o : ℕ) (γ : GName) (h : Tally) (d : ℕ) (d-fits : d < 2 ^ 32) (few : h.steps < 1000000) where
+    (κ : Lft) (q : Share) (b o : ℕ) (γ : GName) (h : Tally) (d : ℕ) (d_fits : d < 2 ^ 32) (few : h.steps < 1000000) where
   open 𝓛 use {H, A}
 
   abbrev args : MutBor Tally × (ℕ × Unit {0})
@@ -79,26 +79,26 @@ module _ {M : Type 1} {𝓤 : Ura M} (𝓛 : Logic 𝓤) (at_mem : Memory → SP
   abbrev after : ℕ → Tally
   after m = record { steps = h.steps + 1; depth = m }
 
-  more-fits : h.steps + 1 < 2 ^ 32
-  more-fits = omega (arith, few)
+  more_fits : h.steps + 1 < 2 ^ 32
+  more_fits = omega (arith, few)
 
   -- A tally in memory holds two numbers that fit.
-  depth-fits : Is tally.the_row h (tally-laws.lowered h ∷ []) → h.depth < 2 ^ 32
-  depth-fits was = (laws.owed tally.the_type tally-laws.the_laws h _ was).1.0.1
+  depth_fits : Is tally.the_row h (tally_laws.lowered h ∷ []) → h.depth < 2 ^ 32
+  depth_fits was = (laws.owed tally.the_type tally_laws.the_laws h _ was).1.0.1
 
-  made : (m : ℕ) → m < 2 ^ 32 → Is tally.the_row (after m) (tally-laws.lowered (after m) ∷ [])
-  made m m-fits = laws.owes tally.the_type tally-laws.the_laws (after m) ((refl, more-fits), ((refl, m-fits), tt))
+  made : (m : ℕ) → m < 2 ^ 32 → Is tally.the_row (after m) (tally_laws.lowered (after m) ∷ [])
+  made m m_fits = laws.owes tally.the_type tally_laws.the_laws (after m) ((refl, more_fits), ((refl, m_fits), tt))
 
   abbrev Post : Val → SProp 𝓤
   Post = (walk_of 𝓛 charge.ended stayed (charge.clauses 𝓛 at_mem run)).post (((κ, tt), (q, tt), tt, args, vals), tt)
 
   -- `greater` is handed two plain numbers.
-  abbrev to-greater : (Greater 𝓛 at_mem run).Ghost
-  to-greater = ((tt, tt, tt, (h.depth, (d, tt)), (vint w32 h.depth ∷ [], (vint w32 d ∷ [], tt))), tt)
+  abbrev to_greater : (Greater 𝓛 at_mem run).Ghost
+  to_greater = ((tt, tt, tt, (h.depth, (d, tt)), (vint w32 h.depth ∷ [], (vint w32 d ∷ [], tt))), tt)
 
-  asks-greater : h.depth < 2 ^ 32 → ent 𝓤 (emp 𝓤) ((Greater 𝓛 at_mem run).pre to-greater)
-  asks-greater fits =
-      qed 𝓛 [] ∵ nothing ! $ owned ! u32 (Is u32) (uint_Makes 𝓛 w32) d _ (refl, d-fits) $ fjoin ! $
+  asks_greater : h.depth < 2 ^ 32 → ent 𝓤 (emp 𝓤) ((Greater 𝓛 at_mem run).pre to_greater)
+  asks_greater fits =
+      qed 𝓛 [] ∵ nothing ! $ owned ! u32 (Is u32) (uint_Makes 𝓛 w32) d _ (refl, d_fits) $ fjoin ! $
       owned ! u32 (Is u32) (uint_Makes 𝓛 w32) h.depth _ (refl, fits) $ fjoin ! $ nothing ! $ join ! $ nothing ! $ move ! (1 ∷ 0 ∷ []) $ join ! $ done !
 
   -- The promise, at the depth m that was written: the whole tally is the charged one.
@@ -109,7 +109,7 @@ module _ {M : Type 1} {𝓤 : Ura M} (𝓛 : Logic 𝓤) (at_mem : Memory → SP
       suffices ! _ (ends_at 𝓛 charge.ended stayed (charge.clauses 𝓛 at_mem run) (((κ, tt), (q, tt), tt, args, vals), tt) vunit tt (after m, (tt, tt)) (tt, (tt, tt))) $
       says ! (λ i. record { steps = h.steps + 1; depth = e i }) $ nothing ! $ move ! (3 ∷ 0 ∷ []) $ join ! $
       frame ! $ feq_i ! (List Val) (vptr b o ∷ []) (vptr b o ∷ []) refl $ fjoin3 ! $
-      nothing ! $ owned ! u32 (Is u32) (uint_Makes 𝓛 w32) d _ (refl, d-fits) $ fjoin ! $ move ! (1 ∷ 0 ∷ []) $ fjoin ! $
+      nothing ! $ owned ! u32 (Is u32) (uint_Makes 𝓛 w32) d _ (refl, d_fits) $ fjoin ! $ move ! (1 ∷ 0 ∷ []) $ fjoin ! $
       feq_i ! (List Val) (vunit ∷ []) (vunit ∷ []) refl $ move ! (1 ∷ 0 ∷ []) $ done !
 
   module _ (C : Calls 𝓤 H) (Λ : Loops 𝓤 H) (fm : FmC 𝓤 H 𝓛.laws C) (known : Triple 𝓤 (C #greater) (Greater 𝓛 at_mem run)) where
@@ -117,21 +117,21 @@ module _ {M : Type 1} {𝓤 : Ura M} (𝓛 : Logic 𝓤) (at_mem : Memory → SP
     walk =
         qed 𝓛 ((‵ (flft κ q) ⊛ ‵ ftrue) ∷ ‵ (owns (MutRef (named 0) κ tally.the_row ∷ u32 ∷ []) args vals) ∷ []) ∵ enter ! C Λ code.function (vptr b o ∷ vint w32 d ∷ []) _ $
         alloc1 ! (λ l₀. alloc1 ! (λ l₁. alloc1 ! (λ l₂. alloc1 ! (λ l₃. alloc1 ! (λ l₄. alloc0 ! $
-        params1 ! $ pass1 ! (init ! 6 refl (tt, tt)) $ pass1 ! (init ! 4 refl (tt, record { fits = d-fits })) $ pass0 ! $
+        params1 ! $ pass1 ! (init ! 6 refl (tt, tt)) $ pass1 ! (init ! 4 refl (tt, record { fits = d_fits })) $ pass0 ! $
         -- the borrow is opened
         move ! (11 ∷ []) $ fsplit ! $ fsplit3 ! $ drop ! $ move ! (13 ∷ []) $ split ! $ move ! (2 ∷ 3 ∷ 0 ∷ []) $
         opens ! tt tally.the_row {h = h} b o (λ vs.
-        spelt ! tally.the_row (Is tally.the_row) (shows 𝓛 tally.the_row) (laws.vals tally.the_type tally-laws.the_laws) (laws.tells tally.the_type tally-laws.the_laws) full_share h vs b o $
-        move ! (1 ∷ []) $ peeks ! tally.the_row (Is tally.the_row) (shows 𝓛 tally.the_row) h (tally-laws.lowered h ∷ []) (λ was. move ! (1 ∷ 0 ∷ []) $
+        spelt ! tally.the_row (Is tally.the_row) (shows 𝓛 tally.the_row) (laws.vals tally.the_type tally_laws.the_laws) (laws.tells tally.the_type tally_laws.the_laws) full_share h vs b o $
+        move ! (1 ∷ []) $ peeks ! tally.the_row (Is tally.the_row) (shows 𝓛 tally.the_row) h (tally_laws.lowered h ∷ []) (λ was. move ! (1 ∷ 0 ∷ []) $
         -- [the tally's cell; what it owns; the open borrow; obs; auth; true; what depth owns; _4; …; _3; …; _2; …; _1; …; room for _0; …]
         -- the count, one greater
         assigns ! (of_opd ! (load ! (from ! (hop ! (look ! 13 refl) (fld ! refl (stop !)))) (look_in ! 0 (sub ! 0 refl (whole !))))) (from ! (stop !)) (init ! 9 refl (tt, record { fits = omega (arith, few) })) $
-        assigns ! (bin ! (load ! (from ! (stop !)) (look ! 9 refl)) (lit ! tt) (record { fits = more-fits })) (from ! (stop !)) (init ! 7 refl (tt, record { fits = more-fits })) $
-        assigns ! (of_opd ! (load ! (from ! (stop !)) (look ! 7 refl))) (from ! (hop ! (look ! 13 refl) (fld ! refl (stop !)))) (store_in ! 0 (sub ! 0 refl (whole !)) (tt, record { fits = more-fits })) $
+        assigns ! (bin ! (load ! (from ! (stop !)) (look ! 9 refl)) (lit ! tt) (record { fits = more_fits })) (from ! (stop !)) (init ! 7 refl (tt, record { fits = more_fits })) $
+        assigns ! (of_opd ! (load ! (from ! (stop !)) (look ! 7 refl))) (from ! (hop ! (look ! 13 refl) (fld ! refl (stop !)))) (store_in ! 0 (sub ! 0 refl (whole !)) (tt, record { fits = more_fits })) $
         -- the depth, by `greater`
-        assigns ! (of_opd ! (load ! (from ! (hop ! (look ! 13 refl) (fld ! refl (stop !)))) (look_in ! 0 (sub ! 1 refl (whole !))))) (from ! (stop !)) (store ! 7 refl (tt, record { fits = depth-fits was })) $
-        use0 𝓛 (raw ((Greater 𝓛 at_mem run).pre to-greater)) (asks-greater (depth-fits was)) $
-        calls_at ! fm (Greater 𝓛 at_mem run) known to-greater (and_then ! (load ! (from ! (stop !)) (look ! 8 refl)) (and_then ! (load ! (from ! (stop !)) (look ! 12 refl)) (no_more !))) (λ w.
+        assigns ! (of_opd ! (load ! (from ! (hop ! (look ! 13 refl) (fld ! refl (stop !)))) (look_in ! 0 (sub ! 1 refl (whole !))))) (from ! (stop !)) (store ! 7 refl (tt, record { fits = depth_fits was })) $
+        use0 𝓛 (raw ((Greater 𝓛 at_mem run).pre to_greater)) (asks_greater (depth_fits was)) $
+        calls_at ! fm (Greater 𝓛 at_mem run) known to_greater (and_then ! (load ! (from ! (stop !)) (look ! 8 refl)) (and_then ! (load ! (from ! (stop !)) (look ! 12 refl)) (no_more !))) (λ w.
         use1 𝓛 (later (some (λ (m : ℕ). (‵ ftrue ⊛ ‵ (u32.own_val m (w ∷ []))) ⊛ raw (ensured 𝓛 greater.ended (greater.clauses 𝓛 at_mem run) tt (h.depth, (d, tt)) tt m)))) (id⊢ 𝓤 _) $ await ! tt $ pick ! (λ m.
         split ! $ move ! (1 ∷ []) $ use1 𝓛 (raw (fact 𝓤 (m ≡ max h.depth d))) (is_greater 𝓛 at_mem run h.depth d m) $ heard ! (m ≡ max h.depth d) (λ e.
         split ! $ move ! (1 ∷ []) $ peeks ! u32 (Is u32) (shows 𝓛 u32) m (w ∷ []) (λ is.
@@ -140,8 +140,8 @@ module _ {M : Type 1} {𝓤 : Ura M} (𝓛 : Logic 𝓤) (at_mem : Memory → SP
         assigns ! (of_opd ! (load ! (from ! (stop !)) (look ! 11 refl))) (from ! (hop ! (look ! 15 refl) (fld ! refl (stop !)))) (store_in ! 2 (sub ! 1 refl (whole !)) (tt, record { fits = is.1 })) $
         assigns ! (of_opd ! (unit_lit !)) (from ! (stop !)) (init ! 17 refl (tt, tt)) $
         -- the borrow is closed at the tally that now lies there
-        move ! (3 ∷ []) $ drop ! $ owned ! tally.the_row (Is tally.the_row) (laws.makes tally.the_type tally-laws.the_plain 𝓛) (after m) _ (made m is.1) $
-        move ! (3 ∷ 0 ∷ 4 ∷ 5 ∷ 6 ∷ []) $ closes ! tt tally.the_row (after m) (tally-laws.lowered (after m) ∷ []) b o $
+        move ! (3 ∷ []) $ drop ! $ owned ! tally.the_row (Is tally.the_row) (laws.makes tally.the_type tally_laws.the_plain 𝓛) (after m) _ (made m is.1) $
+        move ! (3 ∷ 0 ∷ 4 ∷ 5 ∷ 6 ∷ []) $ closes ! tt tally.the_row (after m) (tally_laws.lowered (after m) ∷ []) b o $
         -- [obs; the borrow; the token; what the answer owns; true; true; what depth owns; _4; …; _3; …; _2; …; _1; …; _0; …]
         returns ! (look ! 15 refl) $ forget ! 7 refl $ forget ! 9 refl $ forget ! 11 refl $ forget ! 13 refl $ forget ! 15 refl $
         move ! (15 ∷ 16 ∷ []) $ free1 ! $ move ! (13 ∷ 14 ∷ []) $ free1 ! $ move ! (11 ∷ 12 ∷ []) $ free1 ! $ move ! (9 ∷ 10 ∷ []) $ free1 ! $ move ! (7 ∷ 8 ∷ []) $ free1 ! $ free0 ! $
@@ -150,9 +150,9 @@ module _ {M : Type 1} {𝓤 : Ura M} (𝓛 : Logic 𝓤) (at_mem : Memory → SP
 module _ {M : Type 1} {𝓤 : Ura M} (𝓛 : Logic 𝓤) (at_mem : Memory → SProp 𝓤) (run : Routine → Fun 𝓤) where
   open 𝓛 use {H}
 
-  charge-walks : (C : Calls 𝓤 H) (Λ : Loops 𝓤 H) → FmC 𝓤 H 𝓛.laws C → Triple 𝓤 (C #greater) (Greater 𝓛 at_mem run)
+  charge_walks : (C : Calls 𝓤 H) (Λ : Loops 𝓤 H) → FmC 𝓤 H 𝓛.laws C → Triple 𝓤 (C #greater) (Greater 𝓛 at_mem run)
       → Walks 𝓛 charge.ended stayed (WpFn 𝓤 H C Λ code.function) (charge.clauses 𝓛 at_mem run)
-  charge-walks C Λ fm known = walked 𝓛 charge.ended stayed (charge.clauses 𝓛 at_mem run) (WpFn 𝓤 H C Λ code.function)
+  charge_walks C Λ fm known = walked 𝓛 charge.ended stayed (charge.clauses 𝓛 at_mem run) (WpFn 𝓤 H C Λ code.function)
       (λ κs. (mut_vals, (uint_vals w32, tt))) (λ κs. (mut_Tells (named 0) κs.0 tally.the_row, (uint_Tells w32, tt)))
       (λ κs qs bounds a g are. needs 𝓤 (a.0.now.steps < 1000000) _ (λ few.
       walk 𝓛 at_mem run κs.0 qs.0 a.0.ref_ptr.0 a.0.ref_ptr.1 a.0.ghost_name a.0.now a.1.0 are.1.0.1 few C Λ fm known))
@@ -161,7 +161,7 @@ charge-meets : {M : Type 1} {𝓤 : Ura M} (𝓛 : Logic 𝓤) → (at_mem : Mem
     → Triple 𝓤 (𝓣.C #greater) (Greater 𝓛 at_mem run) → Meets 𝓛 charge.signature (WpFn 𝓤 𝓛.H 𝓣.C 𝓣.Λ code.function) (charge.spec 𝓛 at_mem run)
 charge-meets {𝓤 = 𝓤} 𝓛 at_mem run 𝓣 known =
     walk_Meets 𝓛 charge.ended stayed (Goes-ref 𝓛 1 0 tt (plain (λ _. tally.the_row)), (Goes-none 𝓛 1 (λ _. u32) yes (λ κs x f. refl), tt)) (charge.clauses 𝓛 at_mem run)
-    (WpFn 𝓤 𝓛.H 𝓣.C 𝓣.Λ code.function) (WpFn-mono 𝓤 𝓛.H 𝓛.laws 𝓣 code.function) (charge-walks 𝓛 at_mem run 𝓣.C 𝓣.Λ (fm_of 𝓤 𝓛.H 𝓛.laws 𝓣) known)
+    (WpFn 𝓤 𝓛.H 𝓣.C 𝓣.Λ code.function) (WpFn-mono 𝓤 𝓛.H 𝓛.laws 𝓣 code.function) (charge_walks 𝓛 at_mem run 𝓣.C 𝓣.Λ (fm_of 𝓤 𝓛.H 𝓛.laws 𝓣) known)
 
 pub charge-spec : {M : Type 1} → stated.statement M
 unfolding code.routine tables_of
@@ -169,4 +169,4 @@ charge-spec 𝓤 𝓛 𝓜 𝓡 =
     entered 𝓤 𝓛.H (triple_of 𝓛 charge.signature (charge.spec 𝓛 𝓜.mem 𝓡.run))
     (tables 𝓤 𝓛.H 𝓜 𝓡 code.env).C (tables 𝓤 𝓛.H 𝓜 𝓡 code.env).Λ #charge code.function (code.unfolded 𝓤 𝓛.H 𝓜 𝓡)
     (charge-meets 𝓛 𝓜.mem 𝓡.run (tables_of 𝓤 𝓛.H 𝓜 (tables 𝓤 𝓛.H 𝓜 𝓡 code.env))
-    (cited 𝓤 𝓛.H (Greater 𝓛 𝓜.mem 𝓡.run) 𝓜 𝓡 code.env #greater greater-def.routine code.calls-tally::greater (greater-thm.met 𝓤 𝓛 𝓜 𝓡)))
+    (cited 𝓤 𝓛.H (Greater 𝓛 𝓜.mem 𝓡.run) 𝓜 𝓡 code.env #greater greater_def.routine code.calls-tally::greater (greater_thm.met 𝓤 𝓛 𝓜 𝓡)))

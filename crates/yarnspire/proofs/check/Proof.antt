@@ -1,8 +1,8 @@
 -- `check` meets its promise. Assumes nothing.
 use native.Mathlib.Omega.{arith}
 use Rattle.grammar.specs.Sound.{Bytes}
-use Rattle.format.specs.Image.{readImage}
-use Rattle.yarnspire.specs.PromiseLaws.{checks, is-good, is-faulty}
+use Rattle.format.specs.Image.{read_image}
+use Rattle.yarnspire.specs.PromiseLaws.{checks, is_good, is_faulty}
 use borrow.Author.Rules.{rules}
 use Rattle.yarnspire.proofs.check.Statement.{statement}
 use Rattle.yarnspire.proofs.check.Tie as tie
@@ -17,12 +17,12 @@ check-requires c κs = search rules
 returns : tie.Need-returns
 returns c =
     let a = c.before.before.before.before.args in
-    checks a.image.now (bytes c.before.before.before) (is-good a.image.now (bytes c.before.before.before) c.before.before.check.ensures c.if1.true)
+    checks a.image.now (bytes c.before.before.before) (is_good a.image.now (bytes c.before.before.before) c.before.before.check.ensures c.if1.true)
 
 returns-2 : tie.Need-returns-2
 returns-2 c =
     let a = c.before.before.before.before.args in
-    checks a.image.now (bytes c.before.before.before) (is-faulty (readImage a.image.now) c.before.before.check.ensures c.if1.false)
+    checks a.image.now (bytes c.before.before.before) (is_faulty (read_image a.image.now) c.before.before.check.ensures c.if1.false)
 
 pub check-spec : {M : Type 1} → statement M
 check-spec = tie.close (tie.spec check-requires returns returns-2)

@@ -2,14 +2,14 @@
 use Prim.Native.Nat.{◌*◌}
 use mathlib.Core.Path.{◌≡◌, ap, sym, ◌∙◌}
 use lib.ListN.{length, replicate}
-use Rattle.image.specs.LoadLaws.{filled-length}
+use Rattle.image.specs.LoadLaws.{filled_length}
 use native.Mathlib.Omega.{arith}
 use lib.Seq.{length-take-le}
 use Rattle.grammar.specs.Sound.{Bytes}
-use Rattle.format.specs.Image.{readImage}
+use Rattle.format.specs.Image.{read_image}
 use Rattle.format.specs.RoundTrip.{exact, refusal}
-use Rattle.meaning.specs.Demands.{Entered, image-refused, input-refused, limits-refused, slots-refused}
-use Rattle.yarnspire.specs.PromiseLaws.{found-fault, fault-small, found-good, refuses, permitted, disallowed, run-asks, run-gives}
+use Rattle.meaning.specs.Demands.{Entered, image_refused, input_refused, limits_refused, slots_refused}
+use Rattle.yarnspire.specs.PromiseLaws.{found_fault, fault_small, found_good, refuses, permitted, disallowed, run_asks, run_gives}
 use borrow.Author.Rules.{rules}
 use Rattle.yarnspire.proofs.recognise.Statement.{statement}
 use Rattle.yarnspire.proofs.recognise.Tie as tie
@@ -19,8 +19,8 @@ bytes : (c : tie.After-shared-slice-known) → Bytes c.before.args.image.now
 bytes c i = omega (arith, c.shared-slice-known.given i)
 
 -- The input is one too.
-input-bytes : (c : tie.After-shared-slice-known2) → Bytes c.before.before.args.input.now
-input-bytes c i = omega (arith, c.shared-slice-known2.given i)
+input_bytes : (c : tie.After-shared-slice-known2) → Bytes c.before.before.args.input.now
+input_bytes c i = omega (arith, c.shared-slice-known2.given i)
 
 load-requires : tie.Need-load-requires
 load-requires c κs = search rules
@@ -36,7 +36,7 @@ cast-refuse c =
     let a = c.before.before.before.before.before.before.before.before.before.args in
     omega (
       arith,
-      fault-small a.image.now (bytes c.before.before.before.before.before.before.before.before) (found-fault (readImage a.image.now) c.before.before.loaded2.given.1 c.before.before.before.before.load.ensures.answer),
+      fault_small a.image.now (bytes c.before.before.before.before.before.before.before.before) (found_fault (read_image a.image.now) c.before.before.loaded2.given.1 c.before.before.before.before.load.ensures.answer),
     )
 
 refuse-requires : tie.Need-refuse-requires
@@ -45,10 +45,10 @@ refuse-requires c κs = search rules
 returns : tie.Need-returns
 returns c =
     let a = c.before.before.before.before.before.before.before.before.before.before.args in
-    let f = found-fault (readImage a.image.now) c.before.before.before.loaded2.given.1 c.before.before.before.before.before.load.ensures.answer in
+    let f = found_fault (read_image a.image.now) c.before.before.before.loaded2.given.1 c.before.before.before.before.before.load.ensures.answer in
     let l = refusal a.image.now (bytes c.before.before.before.before.before.before.before.before.before) _ _ f in
     refuses _ _ (bytes c.before.before.before.before.before.before.before.before.before) c.refuse.ensures l.least (omega (arith, l.most))
-    (image-refused a.image.now a.input.now a.steps a.depth a.room a.slots.now _ _ f)
+    (image_refused a.image.now a.input.now a.steps a.depth a.room a.slots.now _ _ f)
 
 refuse-requires-2 : tie.Need-refuse-requires-2
 refuse-requires-2 c κs = search rules
@@ -56,9 +56,9 @@ refuse-requires-2 c κs = search rules
 returns-2 : tie.Need-returns-2
 returns-2 c =
     let a = c.before.before.before.before.before.before.before.before.before.before.args in
-    let w = found-good (readImage a.image.now) c.before.before.before.loaded.given.1 c.before.before.before.before.before.load.ensures.answer in
+    let w = found_good (read_image a.image.now) c.before.before.before.loaded.given.1 c.before.before.before.before.before.load.ensures.answer in
     refuses 9 0 (bytes c.before.before.before.before.before.before.before.before.before) c.refuse2.ensures (omega arith) (omega arith)
-    (input-refused a.image.now w.0 a.input.now a.steps a.depth a.room a.slots.now w.1 c.before.if1.true)
+    (input_refused a.image.now w.0 a.input.now a.steps a.depth a.room a.slots.now w.1 c.before.if1.true)
 
 allowed-requires : tie.Need-allowed-requires
 allowed-requires c κs = search rules
@@ -69,13 +69,13 @@ refuse-requires-3 c κs = search rules
 returns-3 : tie.Need-returns-3
 returns-3 c =
     let a = c.before.before.before.before.before.before.before.before.before.before.before.before.args in
-    let w = found-good (readImage a.image.now) c.before.before.before.before.before.loaded.given.1 c.before.before.before.before.before.before.before.load.ensures.answer in
+    let w = found_good (read_image a.image.now) c.before.before.before.before.before.loaded.given.1 c.before.before.before.before.before.before.before.load.ensures.answer in
     refuses 10 0 (bytes c.before.before.before.before.before.before.before.before.before.before.before) c.refuse3.ensures (omega arith) (omega arith)
-    (limits-refused a.image.now w.0 a.input.now a.steps a.depth a.room a.slots.now w.1 c.before.before.before.if1.false
+    (limits_refused a.image.now w.0 a.input.now a.steps a.depth a.room a.slots.now w.1 c.before.before.before.if1.false
     (disallowed c.before.before.allowed.ensures c.before.if2.true))
 
 mul-lent : tie.Need-overflow-mul-lent
-mul-lent c = let a = c.before.before.before.before.before.before.before.before.before.before.before.args in let r = permitted {B = a.steps} {D = a.depth} {R = a.room} c.before.allowed.ensures c.if2.false in omega (arith, r.small-room)
+mul-lent c = let a = c.before.before.before.before.before.before.before.before.before.before.before.args in let r = permitted {B = a.steps} {D = a.depth} {R = a.room} c.before.allowed.ensures c.if2.false in omega (arith, r.small_room)
 
 cast-lent : tie.Need-overflow-cast-lent
 cast-lent c = search rules
@@ -86,9 +86,9 @@ refuse-requires-4 c κs = search rules
 returns-4 : tie.Need-returns-4
 returns-4 c =
     let a = c.before.before.before.before.before.before.before.before.before.before.before.before.before.args in
-    let w = found-good (readImage a.image.now) c.before.before.before.before.before.before.loaded.given.1 c.before.before.before.before.before.before.before.before.load.ensures.answer in
+    let w = found_good (read_image a.image.now) c.before.before.before.before.before.before.loaded.given.1 c.before.before.before.before.before.before.before.before.load.ensures.answer in
     refuses 11 0 (bytes c.before.before.before.before.before.before.before.before.before.before.before.before) c.refuse4.ensures (omega arith) (omega arith)
-    (slots-refused a.image.now w.0 a.input.now a.steps a.depth a.room a.slots.now w.1 c.before.before.before.before.if1.false
+    (slots_refused a.image.now w.0 a.input.now a.steps a.depth a.room a.slots.now w.1 c.before.before.before.before.if1.false
     (permitted c.before.before.before.allowed.ensures c.before.before.if2.false) (omega (arith, c.before.if3.true)))
 
 array-write-code : tie.Need-array-write-code
@@ -103,7 +103,7 @@ array-write-code-3 c = search rules
 cast-code : tie.Need-overflow-cast-code
 cast-code c =
     let a = c.before.before.before.before.before.before.before.before.before.before.before.before.args in
-    let w = found-good (readImage a.image.now) c.before.before.before.before.before.loaded.given.1 c.before.before.before.before.before.before.before.load.ensures.answer in
+    let w = found_good (read_image a.image.now) c.before.before.before.before.before.loaded.given.1 c.before.before.before.before.before.before.before.load.ensures.answer in
     omega (arith, ((exact a.image.now (bytes c.before.before.before.before.before.before.before.before.before.before.before) w.0).0 w.1).short)
 
 array-write-code-4 : tie.Need-array-write-code-4
@@ -118,16 +118,16 @@ slice-aggregate-run c = let a = c.before.before.before.before.before.before.befo
 run-requires : tie.Need-run-requires
 run-requires c κs =
     let a = c.before.before.before.before.before.before.before.before.before.before.before.before.before.before.args in
-    let w = found-good (readImage a.image.now) c.before.before.before.before.before.before.before.loaded.given.1 c.before.before.before.before.before.before.before.before.before.load.ensures.answer in
+    let w = found_good (read_image a.image.now) c.before.before.before.before.before.before.before.loaded.given.1 c.before.before.before.before.before.before.before.before.before.load.ensures.answer in
     let E : Entered a.image.now w.0 a.input.now a.steps a.depth a.room a.slots.now = record {
-      image-good = w.1;
-      input-short = c.before.before.before.before.before.if1.false;
+      image_good = w.1;
+      input_short = c.before.before.before.before.before.if1.false;
       ranges = permitted c.before.before.before.before.allowed.ensures c.before.before.before.if2.false;
-      slots-enough = omega (arith, c.before.before.if3.false);
+      slots_enough = omega (arith, c.before.before.if3.false);
     } in
     let L = c.before.before.before.before.before.before.before.before.before.load.ensures in
-    run-asks w.1 (bytes c.before.before.before.before.before.before.before.before.before.before.before.before.before) L a.steps a.depth a.room (ap length L.array ∙ filled-length a.image.now (replicate 524 0)) E w.2
-    (input-bytes c.before.before.before.before.before.before.before.before.before.before.before.before)
+    run_asks w.1 (bytes c.before.before.before.before.before.before.before.before.before.before.before.before.before) L a.steps a.depth a.room (ap length L.array ∙ filled_length a.image.now (replicate 524 0)) E w.2
+    (input_bytes c.before.before.before.before.before.before.before.before.before.before.before.before)
 
 same_length : tie.Need-same-length
 same_length c = search rules
@@ -135,15 +135,15 @@ same_length c = search rules
 returns-5 : tie.Need-returns-5
 returns-5 c =
     let a = c.before.before.before.before.before.before.before.before.before.before.before.before.before.before.before.before.before.args in
-    let w = found-good (readImage a.image.now) c.before.before.before.before.before.before.before.before.before.before.loaded.given.1 c.before.before.before.before.before.before.before.before.before.before.before.before.load.ensures.answer in
+    let w = found_good (read_image a.image.now) c.before.before.before.before.before.before.before.before.before.before.loaded.given.1 c.before.before.before.before.before.before.before.before.before.before.before.before.load.ensures.answer in
     let E : Entered a.image.now w.0 a.input.now a.steps a.depth a.room a.slots.now = record {
-      image-good = w.1;
-      input-short = c.before.before.before.before.before.before.before.before.if1.false;
+      image_good = w.1;
+      input_short = c.before.before.before.before.before.before.before.before.if1.false;
       ranges = permitted c.before.before.before.before.before.before.before.allowed.ensures c.before.before.before.before.before.before.if2.false;
-      slots-enough = omega (arith, c.before.before.before.before.before.if3.false);
+      slots_enough = omega (arith, c.before.before.before.before.before.if3.false);
     } in
     let L = c.before.before.before.before.before.before.before.before.before.before.before.before.load.ensures in
-    run-gives w.1 (bytes c.before.before.before.before.before.before.before.before.before.before.before.before.before.before.before.before) L a.steps a.depth a.room (ap length L.array ∙ filled-length a.image.now (replicate 524 0)) E c.before.before.run.ensures
+    run_gives w.1 (bytes c.before.before.before.before.before.before.before.before.before.before.before.before.before.before.before.before) L a.steps a.depth a.room (ap length L.array ∙ filled_length a.image.now (replicate 524 0)) E c.before.before.run.ensures
 
 pub recognise-spec : {M : Type 1} → statement M
 recognise-spec =

@@ -11,9 +11,9 @@ use borrow.Author.Rules.{rules}
 use Rattle.yarnspire.proofs.yarnspire_check.Statement.{statement}
 use Rattle.yarnspire.proofs.yarnspire_check.Tie as tie
 
-good-verdict : (v : Verdict) → tag_of the_type v ≡ 0 → v ≡ Good
-good-verdict Good e = refl
-good-verdict (Refused n p) e = absurd (omega arith)
+good_verdict : (v : Verdict) → tag_of the_type v ≡ 0 → v ≡ Good
+good_verdict Good e = refl
+good_verdict (Refused n p) e = absurd (omega arith)
 
 check-requires : tie.Need-check-requires
 check-requires c κs = search rules
@@ -27,7 +27,7 @@ enum-known-verdict c = search rules
 returns : tie.Need-returns
 returns c =
     let v = c.before.before.check in
-    let e = good-verdict v.result c.before.match.keys1 in
+    let e = good_verdict v.result c.before.match.keys1 in
     record { verdict = v.result; checks = v.ensures; number_is = ap number_of (sym e); place_is = ap place_of (sym e) }
 
 returns-2 : tie.Need-returns-2

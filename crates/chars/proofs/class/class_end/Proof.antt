@@ -4,12 +4,12 @@ use native.Mathlib.Omega.{arith}
 use lib.ListN.{get_or}
 use borrow.Author.Rules.{rules}
 use borrow.Author.Tests.{eqb-true, eqb-false}
-use Rattle.chars.proofs.ClassLaws.{class-over, class-refused, class-ends}
+use Rattle.chars.proofs.ClassLaws.{class_over, class_refused, class_ends}
 use Rattle.chars.proofs.class.class_end.Statement.{statement}
 use Rattle.chars.proofs.class.class_end.Tie as tie
 
 returns : tie.Need-returns
-returns c = let a = c.before.before.args in class-over a.text.now a.from (omega arith)
+returns c = let a = c.before.before.args in class_over a.text.now a.from (omega arith)
 
 shared-slice-read-b : tie.Need-shared-slice-read-b
 shared-slice-read-b c = search rules
@@ -17,7 +17,7 @@ shared-slice-read-b c = search rules
 returns-2 : tie.Need-returns-2
 returns-2 c =
     let a = c.before.before.before.before.args in
-    class-refused a.text.now a.from (omega arith)
+    class_refused a.text.now a.from (omega arith)
     (⊎_elim (λ w. inl w.taken) (λ w. inr (eqb-true (get_or a.text.now a.from 0) 93 w.1.taken)) c.if2.branch)
 
 parts-end-requires : tie.Need-parts-end-requires
@@ -26,8 +26,8 @@ parts-end-requires c κs = search rules
 returns-3 : tie.Need-returns-3
 returns-3 c =
     let a = c.before.before.before.before.before.before.args in
-    class-ends a.text.now a.from (omega arith) c.before.before.if2.false (eqb-false (get_or a.text.now a.from 0) 93 c.before.if3.false)
-    c.parts-end.result c.parts-end.ensures
+    class_ends a.text.now a.from (omega arith) c.before.before.if2.false (eqb-false (get_or a.text.now a.from 0) 93 c.before.if3.false)
+    c.parts_end_lem.result c.parts_end_lem.ensures
 
 pub class-end-spec : {M : Type 1} → statement M
 class-end-spec =

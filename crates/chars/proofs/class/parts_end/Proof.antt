@@ -4,19 +4,19 @@ use Prim.Native.Nat.{◌-◌}
 use native.Mathlib.Omega.{arith}
 use lib.ListN.{length}
 use borrow.Author.Rules.{rules}
-use Rattle.chars.specs.CharLaws.{class-row}
-use Rattle.chars.proofs.RowLaws.{Passed, passed_none, passed-ends, passed-fails, passed_on, passed_over}
+use Rattle.chars.specs.CharLaws.{class_row}
+use Rattle.chars.proofs.RowLaws.{Passed, passed_none, passed_ends, passed_fails, passed_on, passed_over}
 use Rattle.chars.proofs.class.parts_end.Statement.{statement}
 use Rattle.chars.proofs.class.parts_end.Tie as tie
 
 abbrev invariant-loop : tie.invariant-loop
-invariant-loop text from i₀ i = Passed class-row text from i
+invariant-loop text from i₀ i = Passed class_row text from i
 
 abbrev decreases-loop : tie.decreases-loop
 decreases-loop text from i₀ i = length text - i
 
 loop-holds : tie.Need-loop-init invariant-loop decreases-loop
-loop-holds c = let a = c.before.args in passed_none class-row a.text.now a.from
+loop-holds c = let a = c.before.args in passed_none class_row a.text.now a.from
 
 shared-slice-read-if1 : tie.Need-shared-slice-read-if1 invariant-loop decreases-loop
 shared-slice-read-if1 c = omega arith
@@ -25,7 +25,7 @@ add-t9 : tie.Need-overflow-add-t9 invariant-loop decreases-loop
 add-t9 c = omega arith
 
 returns : tie.Need-returns invariant-loop decreases-loop
-returns c = passed-ends c.before.before.before.loop.invariant (omega arith) c.if1.true
+returns c = passed_ends c.before.before.before.loop.invariant (omega arith) c.if1.true
 
 part-at-requires : tie.Need-part-at-requires invariant-loop decreases-loop
 part-at-requires c κs = search rules
@@ -33,7 +33,7 @@ part-at-requires c κs = search rules
 returns-2 : tie.Need-returns-2 invariant-loop decreases-loop
 returns-2 c =
     let s = c.before.before.before in
-    passed-fails s.before.before.before.loop.invariant (omega arith) s.if1.false c.before.before.part_at.ensures.0 (omega arith)
+    passed_fails s.before.before.before.loop.invariant (omega arith) s.if1.false c.before.before.part_at.ensures.0 (omega arith)
 
 loop-less : tie.Need-loop-smaller invariant-loop decreases-loop
 loop-less c = omega (arith, c.before.before.part_at.ensures.0.onward (omega arith))

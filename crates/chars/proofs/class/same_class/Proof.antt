@@ -6,15 +6,15 @@ use lib.ListN.{length, drop}
 use borrow.Author.Rules.{rules}
 use Rattle.notation.specs.Lexer.{range}
 use Rattle.notation.specs.At.{parts_of}
-use Rattle.chars.specs.CharLaws.{class-row}
+use Rattle.chars.specs.CharLaws.{class_row}
 use Rattle.chars.proofs.RowLaws.{parts_are}
-use Rattle.chars.proofs.CompareLaws.{Compared, first-inside, second-inside, first-onward, compared-all, compared-short, compared-differs, compared-on, sameParts, parts-compare, parts-alike, first-differs, second-differs}
+use Rattle.chars.proofs.CompareLaws.{Compared, first_inside, second_inside, first_onward, compared_all, compared_short, compared_differs, compared_on, same_parts, parts_compare, parts_alike, first_differs, second_differs}
 use Rattle.chars.proofs.class.same_class.Statement.{statement}
 use Rattle.chars.proofs.class.same_class.Tie as tie
 
 abbrev invariant-loop : tie.invariant-loop
 invariant-loop text p q i₀ j₀ i j =
-    Compared parts-compare class-row class-row text (sameParts (parts_of (drop p text)) (parts_of (drop q text))) i j
+    Compared parts_compare class_row class_row text (same_parts (parts_of (drop p text)) (parts_of (drop q text))) i j
 
 abbrev decreases-loop : tie.decreases-loop
 decreases-loop text p q i₀ j₀ i j = length text - i
@@ -35,13 +35,13 @@ loop-holds c =
     }
 
 shared-slice-read-if1 : tie.Need-shared-slice-read-if1 invariant-loop decreases-loop
-shared-slice-read-if1 c = first-inside c.before.loop.invariant
+shared-slice-read-if1 c = first_inside c.before.loop.invariant
 
 shared-slice-read-if2 : tie.Need-shared-slice-read-if2 invariant-loop decreases-loop
-shared-slice-read-if2 c = second-inside c.before.before.before.loop.invariant
+shared-slice-read-if2 c = second_inside c.before.before.before.loop.invariant
 
 returns : tie.Need-returns invariant-loop decreases-loop
-returns c = compared-short c.before.before.before.before.loop.invariant c.before.before.if1.true c.if2.true
+returns c = compared_short c.before.before.before.before.loop.invariant c.before.before.if1.true c.if2.true
 
 part-at-requires : tie.Need-part-at-requires invariant-loop decreases-loop
 part-at-requires c κs = search rules
@@ -52,33 +52,33 @@ part-at-requires-2 c κs = search rules
 returns-2 : tie.Need-returns-2 invariant-loop decreases-loop
 returns-2 c =
     let s = c.before.before.before in let r = s.before.before in let x = s.before.part_at in let y = s.part-at2 in
-    compared-differs r.before.before.before.before.loop.invariant r.before.before.if1.true r.if2.false x.ensures.0 y.ensures.0
-    (first-differs (range x.result.lo x.result.hi) (range y.result.lo y.result.hi) c.if3.true)
+    compared_differs r.before.before.before.before.loop.invariant r.before.before.if1.true r.if2.false x.ensures.0 y.ensures.0
+    (first_differs (range x.result.lo x.result.hi) (range y.result.lo y.result.hi) c.if3.true)
 
 returns-3 : tie.Need-returns-3 invariant-loop decreases-loop
 returns-3 c =
     let l = c.before.before.before in
     let s = l.before.before.before in let r = s.before.before in let x = s.before.part_at in let y = s.part-at2 in
-    compared-differs r.before.before.before.before.loop.invariant r.before.before.if1.true r.if2.false x.ensures.0 y.ensures.0
-    (second-differs (range x.result.lo x.result.hi) (range y.result.lo y.result.hi) l.if3.false c.if4.true)
+    compared_differs r.before.before.before.before.loop.invariant r.before.before.if1.true r.if2.false x.ensures.0 y.ensures.0
+    (second_differs (range x.result.lo x.result.hi) (range y.result.lo y.result.hi) l.if3.false c.if4.true)
 
 loop-less : tie.Need-loop-smaller invariant-loop decreases-loop
 loop-less c =
     let s = c.before.before.before.before.before.before in let r = s.before.before in let i = r.before.before.before.before.loop.invariant in
-    omega (arith, first-inside i, first-onward i r.before.before.if1.true s.before.part_at.ensures.0)
+    omega (arith, first_inside i, first_onward i r.before.before.if1.true s.before.part_at.ensures.0)
 
 loop-again : tie.Need-loop-preserved invariant-loop decreases-loop
 loop-again c =
     let l = c.before.before.before in
     let s = l.before.before.before in let r = s.before.before in let x = s.before.part_at in let y = s.part-at2 in
-    compared-on r.before.before.before.before.loop.invariant r.before.before.if1.true r.if2.false x.ensures.0 y.ensures.0
-    (parts-alike (range x.result.lo x.result.hi) (range y.result.lo y.result.hi) l.if3.false c.if4.false)
+    compared_on r.before.before.before.before.loop.invariant r.before.before.if1.true r.if2.false x.ensures.0 y.ensures.0
+    (parts_alike (range x.result.lo x.result.hi) (range y.result.lo y.result.hi) l.if3.false c.if4.false)
 
 shared-slice-read-result : tie.Need-shared-slice-read-result invariant-loop decreases-loop
-shared-slice-read-result c = second-inside c.before.before.before.loop.invariant
+shared-slice-read-result c = second_inside c.before.before.before.loop.invariant
 
 returns-4 : tie.Need-returns-4 invariant-loop decreases-loop
-returns-4 c = compared-all c.before.before.before.loop.invariant c.before.if1.false
+returns-4 c = compared_all c.before.before.before.loop.invariant c.before.if1.false
 
 pub same-class-spec : {M : Type 1} → statement M
 same-class-spec =

@@ -4,19 +4,19 @@ use Prim.Native.Nat.{◌-◌}
 use native.Mathlib.Omega.{arith}
 use lib.ListN.{length}
 use borrow.Author.Rules.{rules}
-use Rattle.chars.specs.CharLaws.{quoted-row}
-use Rattle.chars.proofs.RowLaws.{Passed, passed_none, passed-ends, passed-fails, passed_on, passed_over}
+use Rattle.chars.specs.CharLaws.{quoted_row}
+use Rattle.chars.proofs.RowLaws.{Passed, passed_none, passed_ends, passed_fails, passed_on, passed_over}
 use Rattle.chars.proofs.quoted.quote_end.Statement.{statement}
 use Rattle.chars.proofs.quoted.quote_end.Tie as tie
 
 abbrev invariant-loop : tie.invariant-loop
-invariant-loop text from mark i₀ i = Passed (quoted-row mark) text from i
+invariant-loop text from mark i₀ i = Passed (quoted_row mark) text from i
 
 abbrev decreases-loop : tie.decreases-loop
 decreases-loop text from mark i₀ i = length text - i
 
 loop-holds : tie.Need-loop-init invariant-loop decreases-loop
-loop-holds c = let a = c.before.args in passed_none (quoted-row a.mark) a.text.now a.from
+loop-holds c = let a = c.before.args in passed_none (quoted_row a.mark) a.text.now a.from
 
 shared-slice-read-if1 : tie.Need-shared-slice-read-if1 invariant-loop decreases-loop
 shared-slice-read-if1 c = omega arith
@@ -25,7 +25,7 @@ add-t10 : tie.Need-overflow-add-t10 invariant-loop decreases-loop
 add-t10 c = omega arith
 
 returns : tie.Need-returns invariant-loop decreases-loop
-returns c = passed-ends c.before.before.before.loop.invariant (omega arith) c.if1.true
+returns c = passed_ends c.before.before.before.loop.invariant (omega arith) c.if1.true
 
 char-at-requires : tie.Need-char-at-requires invariant-loop decreases-loop
 char-at-requires c κs = search rules
@@ -33,7 +33,7 @@ char-at-requires c κs = search rules
 returns-2 : tie.Need-returns-2 invariant-loop decreases-loop
 returns-2 c =
     let s = c.before.before.before in
-    passed-fails s.before.before.before.loop.invariant (omega arith) s.if1.false c.before.before.char-at.ensures (omega arith)
+    passed_fails s.before.before.before.loop.invariant (omega arith) s.if1.false c.before.before.char-at.ensures (omega arith)
 
 loop-less : tie.Need-loop-smaller invariant-loop decreases-loop
 loop-less c = omega (arith, c.before.before.char-at.ensures.onward (omega arith))

@@ -5,16 +5,16 @@ use native.Mathlib.Omega.{arith}
 use lib.ListN.{length, drop}
 use borrow.Author.Rules.{rules}
 use Rattle.notation.specs.Lexer.{same}
-use Rattle.notation.specs.At.{quotedOf}
-use Rattle.chars.specs.CharLaws.{quoted-row}
-use Rattle.chars.proofs.RowLaws.{quoted-is}
-use Rattle.chars.proofs.CompareLaws.{Compared, first-inside, second-inside, first-onward, compared-all, compared-short, compared-differs, compared-on, bytes-compare, bytes-alike, bytes-differ}
+use Rattle.notation.specs.At.{quoted_of}
+use Rattle.chars.specs.CharLaws.{quoted_row}
+use Rattle.chars.proofs.RowLaws.{quoted_is}
+use Rattle.chars.proofs.CompareLaws.{Compared, first_inside, second_inside, first_onward, compared_all, compared_short, compared_differs, compared_on, bytes_compare, bytes_alike, bytes_differ}
 use Rattle.chars.proofs.quoted.same_quoted.Statement.{statement}
 use Rattle.chars.proofs.quoted.same_quoted.Tie as tie
 
 abbrev invariant-loop : tie.invariant-loop
 invariant-loop text p q a b i₀ j₀ i j =
-    Compared bytes-compare (quoted-row a) (quoted-row b) text (same (quotedOf (drop p text)) (quotedOf (drop q text))) i j
+    Compared bytes_compare (quoted_row a) (quoted_row b) text (same (quoted_of (drop p text)) (quoted_of (drop q text))) i j
 
 abbrev decreases-loop : tie.decreases-loop
 decreases-loop text p q a b i₀ j₀ i j = length text - i
@@ -37,17 +37,17 @@ loop-holds c =
     record {
       first = s.requires.0.1;
       second = s.requires.1.1;
-      rest = rw (quoted-is a.text.now a.p (omega arith), quoted-is a.text.now a.q (omega arith));
+      rest = rw (quoted_is a.text.now a.p (omega arith), quoted_is a.text.now a.q (omega arith));
     }
 
 shared-slice-read-if1 : tie.Need-shared-slice-read-if1 invariant-loop decreases-loop
-shared-slice-read-if1 c = first-inside c.before.loop.invariant
+shared-slice-read-if1 c = first_inside c.before.loop.invariant
 
 shared-slice-read-if2 : tie.Need-shared-slice-read-if2 invariant-loop decreases-loop
-shared-slice-read-if2 c = second-inside c.before.before.before.loop.invariant
+shared-slice-read-if2 c = second_inside c.before.before.before.loop.invariant
 
 returns : tie.Need-returns invariant-loop decreases-loop
-returns c = compared-short c.before.before.before.before.loop.invariant c.before.before.if1.true c.if2.true
+returns c = compared_short c.before.before.before.before.loop.invariant c.before.before.if1.true c.if2.true
 
 char-at-requires : tie.Need-char-at-requires invariant-loop decreases-loop
 char-at-requires c κs = search rules
@@ -58,25 +58,25 @@ char-at-requires-2 c κs = search rules
 returns-2 : tie.Need-returns-2 invariant-loop decreases-loop
 returns-2 c =
     let s = c.before.before.before in let r = s.before.before in
-    compared-differs r.before.before.before.before.loop.invariant r.before.before.if1.true r.if2.false s.before.char-at.ensures
-    s.char-at2.ensures (bytes-differ c.if3.true)
+    compared_differs r.before.before.before.before.loop.invariant r.before.before.if1.true r.if2.false s.before.char-at.ensures
+    s.char-at2.ensures (bytes_differ c.if3.true)
 
 loop-less : tie.Need-loop-smaller invariant-loop decreases-loop
 loop-less c =
     let s = c.before.before.before in let r = s.before.before in let i = r.before.before.before.before.loop.invariant in
-    omega (arith, first-inside i, first-onward i r.before.before.if1.true s.before.char-at.ensures)
+    omega (arith, first_inside i, first_onward i r.before.before.if1.true s.before.char-at.ensures)
 
 loop-again : tie.Need-loop-preserved invariant-loop decreases-loop
 loop-again c =
     let s = c.before.before.before in let r = s.before.before in
-    compared-on r.before.before.before.before.loop.invariant r.before.before.if1.true r.if2.false s.before.char-at.ensures
-    s.char-at2.ensures (bytes-alike c.if3.false)
+    compared_on r.before.before.before.before.loop.invariant r.before.before.if1.true r.if2.false s.before.char-at.ensures
+    s.char-at2.ensures (bytes_alike c.if3.false)
 
 shared-slice-read-result : tie.Need-shared-slice-read-result invariant-loop decreases-loop
-shared-slice-read-result c = second-inside c.before.before.before.loop.invariant
+shared-slice-read-result c = second_inside c.before.before.before.loop.invariant
 
 returns-3 : tie.Need-returns-3 invariant-loop decreases-loop
-returns-3 c = compared-all c.before.before.before.loop.invariant c.before.if1.false
+returns-3 c = compared_all c.before.before.before.loop.invariant c.before.if1.false
 
 pub same-quoted-spec : {M : Type 1} → statement M
 same-quoted-spec =

@@ -7,7 +7,7 @@ use lib.ListN.{drop, get_or}
 use borrow.Author.Rules.{rules}
 use borrow.Author.Tests.{eqb-true, eqb-false}
 use Rattle.notation.specs.Lexer.{piece}
-use Rattle.chars.proofs.WrittenLaws.{reads_none, reads-some, reads_on, char-over, char-escaped, char-line, char-itself}
+use Rattle.chars.proofs.WrittenLaws.{reads_none, reads_some, reads_on, char_over, char_escaped, char_line, char_itself}
 use Rattle.chars.proofs.written.char_at.Statement.{statement}
 use Rattle.chars.proofs.written.char_at.Tie as tie
 
@@ -16,7 +16,7 @@ missing-requires c κs = search rules
 
 returns : tie.Need-returns
 returns c =
-    let a = c.before.before.before.args in reads_none c.missing.ensures (char-over a.text.now a.at (omega arith))
+    let a = c.before.before.before.args in reads_none c.missing.ensures (char_over a.text.now a.at (omega arith))
 
 shared-slice-read-b : tie.Need-shared-slice-read-b
 shared-slice-read-b c = search rules
@@ -30,7 +30,7 @@ escaped-at-requires c κs = search rules
 returns-2 : tie.Need-returns-2
 returns-2 c =
     let a = c.before.before.before.before.before.args in
-    reads_on (char-escaped a.text.now a.at (omega arith) (omega arith)) (omega arith) c.escaped-at.ensures
+    reads_on (char_escaped a.text.now a.at (omega arith) (omega arith)) (omega arith) c.escaped-at.ensures
 
 missing-requires-2 : tie.Need-missing-requires-2
 missing-requires-2 c κs = search rules
@@ -40,7 +40,7 @@ returns-3 c =
     let a = c.before.before.before.before.before.before.args in
     let b = get_or a.text.now a.at 0 in
     reads_none c.missing2.ensures
-    (char-line a.text.now a.at (omega arith)
+    (char_line a.text.now a.at (omega arith)
     (⊎_elim (λ w. inl w.taken) (λ w. inr (eqb-true b 13 w.1.taken)) c.before.if3.branch))
 
 wide-requires : tie.Need-wide-requires
@@ -54,8 +54,8 @@ returns-4 c =
     let a = c.before.before.before.before.before.before.before.args in
     let t = a.text.now in let b = get_or t a.at 0 in
     let e = c.wide.ensures.0 in
-    reads-some (omega arith)
-    (char-itself t a.at (omega arith) (λ z. omega arith) (λ z. omega arith) (eqb-false b 13 c.before.if4.false)
+    reads_some (omega arith)
+    (char_itself t a.at (omega arith) (λ z. omega arith) (λ z. omega arith) (eqb-false b 13 c.before.if4.false)
     ∙ ap (λ b. piece b (drop (a.at + 1) t)) (sym e)) (omega arith) (omega arith)
 
 pub char-at-spec : {M : Type 1} → statement M

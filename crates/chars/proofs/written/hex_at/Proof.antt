@@ -3,7 +3,7 @@ use mathlib.Core.Logic.{⊎_elim, inl, inr}
 use native.Mathlib.Omega.{arith}
 use borrow.Author.Rules.{rules}
 use borrow.Author.Tests.{eqb-true, eqb-false}
-use Rattle.chars.proofs.WrittenLaws.{reads_none, reads-some, hex-short, hex-none, hex-both}
+use Rattle.chars.proofs.WrittenLaws.{reads_none, reads_some, hex_short, hex_none, hex_both}
 use Rattle.chars.proofs.written.hex_at.Statement.{statement}
 use Rattle.chars.proofs.written.hex_at.Tie as tie
 
@@ -16,7 +16,7 @@ missing-requires c κs = search rules
 returns : tie.Need-returns
 returns c =
     let a = c.before.before.before.args in
-    reads_none c.missing.ensures (hex-short a.text.now a.at (omega arith) (omega arith))
+    reads_none c.missing.ensures (hex_short a.text.now a.at (omega arith) (omega arith))
 
 shared-slice-read-hex-value : tie.Need-shared-slice-read-hex-value
 shared-slice-read-hex-value c = search rules
@@ -43,7 +43,7 @@ returns-2 c =
     let high = s.before.before.hex-value in
     let low = s.hex-value2 in
     reads_none c.missing2.ensures
-    (hex-none a.text.now a.at high.result low.result (omega arith) high.ensures.0 low.ensures.0
+    (hex_none a.text.now a.at high.result low.result (omega arith) high.ensures.0 low.ensures.0
     (⊎_elim (λ w. inl w.taken) (λ w. inr (eqb-true low.result 16 w.1.taken)) c.before.if2.branch))
 
 mul-t13 : tie.Need-overflow-mul-t13
@@ -63,8 +63,8 @@ returns-3 c =
     let low = s.hex-value2 in
     let h = c.before.if2.false in
     let l = eqb-false low.result 16 c.if3.false in
-    reads-some (omega arith)
-    (hex-both a.text.now a.at high.result low.result (omega arith) high.ensures.0 low.ensures.0 (omega arith) (omega arith))
+    reads_some (omega arith)
+    (hex_both a.text.now a.at high.result low.result (omega arith) high.ensures.0 low.ensures.0 (omega arith) (omega arith))
     (omega arith) (omega arith)
 
 pub hex-at-spec : {M : Type 1} → statement M

@@ -4,7 +4,7 @@ use native.Mathlib.Omega.{arith}
 use borrow.Author.Rules.{rules}
 use Rattle.notation.specs.Said.{too_long}
 use Rattle.compiler.specs.Judges.{Judges}
-use Rattle.compiler.proofs.AnswerLaws.{refuses, judged-refuses, judged-inside}
+use Rattle.compiler.proofs.AnswerLaws.{refuses, judged_refuses, judged_inside}
 use Rattle.compiler.proofs.compile.compile.Statement.{statement}
 use Rattle.compiler.proofs.compile.compile.Tie as tie
 
@@ -24,7 +24,7 @@ enum-known-judged : tie.Need-enum-known-judged
 enum-known-judged c = search rules
 
 cast-t11 : tie.Need-overflow-cast-t11
-cast-t11 c = omega (arith, judged-inside c.before.before.before.before.before.before.before.args.text.now c.before.before.before.judge.ensures c.before.judged.given.1, c.before.before.before.before.if1.false)
+cast-t11 c = omega (arith, judged_inside c.before.before.before.before.before.before.before.args.text.now c.before.before.before.judge.ensures c.before.judged.given.1, c.before.before.before.before.if1.false)
 
 same_length : tie.Need-same-length
 same_length c = search rules
@@ -33,7 +33,7 @@ returns-2 : tie.Need-returns-2
 returns-2 c = search rules
 
 returns-3 : tie.Need-returns-3
-returns-3 c = judged-refuses c.before.before.before.before.before.before.before.args.text.now c.before.before.before.judge.ensures c.before.judged.given.1 c.before.before.before.before.before.before.before.args.image.now
+returns-3 c = judged_refuses c.before.before.before.before.before.before.before.args.text.now c.before.before.before.judge.ensures c.before.judged.given.1 c.before.before.before.before.before.before.before.args.image.now
 
 pub compile-spec : {M : Type 1} → statement M
 compile-spec =

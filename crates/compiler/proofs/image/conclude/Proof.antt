@@ -1,9 +1,9 @@
 -- `conclude` meets its promise. Assumes nothing.
 use native.Mathlib.Omega.{arith}
 use borrow.Author.Rules.{rules}
-use Rattle.notation.specs.SaidLaws.{refused-inside}
+use Rattle.notation.specs.SaidLaws.{refused_inside}
 use Rattle.compiler.proofs.AnswerLaws.{refuses}
-use Rattle.compiler.proofs.MadeLaws.{head_few, head_small, head-within, head-count, nodes-count, said-over, whole-short, whole-lent}
+use Rattle.compiler.proofs.MadeLaws.{head_few, head_small, head_within, head_count, nodes_count, said_over, whole_short, whole_lent}
 use Rattle.compiler.proofs.image.conclude.Statement.{statement}
 use Rattle.compiler.proofs.image.conclude.Tie as tie
 
@@ -25,30 +25,30 @@ cast-t17 c =
     omega (
       arith,
       s.requires.0,
-      refused-inside (said-over s.requires.1 c.before.before.before.before.before.write-head.ensures c.before.before.before.over-image.ensures s.requires.0 c.before.over.given.1 0),
+      refused_inside (said_over s.requires.1 c.before.before.before.before.before.write-head.ensures c.before.before.before.over-image.ensures s.requires.0 c.before.over.given.1 0),
     )
 
 enum_told : tie.Need-enum-told
 enum_told c = search rules
 
 array-share-prefix-head : tie.Need-array-share-prefix-head
-array-share-prefix-head c = head-within c.before.before.before.before.write-head.ensures
+array-share-prefix-head c = head_within c.before.before.before.before.write-head.ensures
 
 slice-aggregate-lend : tie.Need-slice-aggregate-lend
-slice-aggregate-lend c = head-count c.before.before.before.before.before.write-head.ensures
+slice-aggregate-lend c = head_count c.before.before.before.before.before.write-head.ensures
 
 slice-aggregate-lend-2 : tie.Need-slice-aggregate-lend-2
-slice-aggregate-lend-2 c = nodes-count c.before.before.before.before.before.before.before.before.before.before.before.before.before.requires.1
+slice-aggregate-lend-2 c = nodes_count c.before.before.before.before.before.before.before.before.before.before.before.before.before.requires.1
 
 lend-requires : tie.Need-lend-requires
 lend-requires c κs =
     let s = c.before.before.before.before.before.before.before.before.before.before.before.before.before.before in
-    whole-short s.requires.1 c.before.before.before.before.before.before.before.write-head.ensures c.before.before.before.before.before.over-image.ensures s.requires.0 c.before.before.before.enum_told.given.1
+    whole_short s.requires.1 c.before.before.before.before.before.before.before.write-head.ensures c.before.before.before.before.before.over-image.ensures s.requires.0 c.before.before.before.enum_told.given.1
 
 returns : tie.Need-returns
 returns c =
     let s = c.before.before.before.before.before.before.before.before.before.before.before.before in
-    refuses (said-over s.requires.1 c.before.before.before.before.before.write-head.ensures c.before.before.before.over-image.ensures s.requires.0 c.before.over.given.1 _)
+    refuses (said_over s.requires.1 c.before.before.before.before.before.write-head.ensures c.before.before.before.over-image.ensures s.requires.0 c.before.over.given.1 _)
 
 same_length : tie.Need-same-length
 same_length c = search rules
@@ -56,7 +56,7 @@ same_length c = search rules
 returns-2 : tie.Need-returns-2
 returns-2 c =
     let s = c.before.before.before.before.before.before.before.before.before.before.before.before.before.before.before.before.before in
-    whole-lent s.requires.1 c.before.before.before.before.before.before.before.before.before.before.write-head.ensures c.before.before.before.before.before.before.before.before.over-image.ensures s.requires.0 c.before.before.before.before.before.before.enum_told.given.1
+    whole_lent s.requires.1 c.before.before.before.before.before.before.before.before.before.before.write-head.ensures c.before.before.before.before.before.before.before.before.over-image.ensures s.requires.0 c.before.before.before.before.before.before.enum_told.given.1
     s.args.image.now c.before.before.lend.new.1.1.0 c.before.before.lend.result c.before.before.lend.ensures
 
 pub conclude-spec : {M : Type 1} → statement M

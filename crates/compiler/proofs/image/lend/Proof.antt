@@ -2,7 +2,7 @@
 use mathlib.Core.Path.{refl, sym}
 use borrow.Author.Rules.{rules}
 use lib.ListN.{length-append}
-use Rattle.compiler.proofs.LendLaws.{pasted-both}
+use Rattle.compiler.proofs.LendLaws.{pasted_both}
 use Rattle.compiler.proofs.image.lend.Statement.{statement}
 use Rattle.compiler.proofs.image.lend.Tie as tie
 
@@ -30,7 +30,7 @@ returns-2 c =
     let long = length-append s.args.head.now s.args.nodes.now in (
       rw long c.before.before.before.before.before.before.before.before.if1.false,
       sym long,
-      pasted-both s.args.head.now s.args.nodes.now s.args.image.now c.before.before.before.before.before.before.put.ensures c.before.before.put2.ensures,
+      pasted_both s.args.head.now s.args.nodes.now s.args.image.now c.before.before.before.before.before.before.put.ensures c.before.before.put2.ensures,
     )
 
 pub lend_spec : {M : Type 1} → statement M

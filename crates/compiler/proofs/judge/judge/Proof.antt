@@ -1,6 +1,6 @@
 -- `judge` meets its promise. Assumes nothing.
 use borrow.Author.Rules.{rules}
-use Rattle.compiler.proofs.RuledLaws.{whole-said, stopped-said}
+use Rattle.compiler.proofs.RuledLaws.{whole_said, stopped_said}
 use Rattle.compiler.proofs.judge.judge.Statement.{statement}
 use Rattle.compiler.proofs.judge.judge.Tie as tie
 
@@ -17,10 +17,10 @@ enum-known-reading : tie.Need-enum-known-reading
 enum-known-reading c = search rules
 
 returns : tie.Need-returns
-returns c = whole-said c.before.before.before.before.before.requires _ c.before.before.before.read_whole.ensures c.before.enum_told.given.1 c.rules.ensures
+returns c = whole_said c.before.before.before.before.before.requires _ c.before.before.before.read_whole.ensures c.before.enum_told.given.1 c.rules.ensures
 
 returns-2 : tie.Need-returns-2
-returns-2 c = stopped-said c.before.before.before.before.before.requires c.before.before.before.read_whole.ensures c.before.reading.given.1
+returns-2 c = stopped_said c.before.before.before.before.before.requires c.before.before.before.read_whole.ensures c.before.reading.given.1
 
 pub judge-spec : {M : Type 1} → statement M
 judge-spec =

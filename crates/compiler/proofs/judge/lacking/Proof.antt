@@ -5,9 +5,9 @@ use Rattle.notation.specs.Uses.{head_of}
 use Rattle.notation.specs.Places.{namePlace}
 use Rattle.notation.specs.Lexer.{lexemes}
 use Rattle.naming.specs.Found.{found}
-use Rattle.naming.specs.GatheredLaws.{gathered-ascending}
-use Rattle.naming.specs.UndefinedLaws.{undefined-gathered}
-use Rattle.compiler.proofs.ListedLaws.{enough, gathers-within, gathers-count, gathers-listed, gathers-ascending}
+use Rattle.naming.specs.GatheredLaws.{gathered_ascending}
+use Rattle.naming.specs.UndefinedLaws.{undefined_gathered}
+use Rattle.compiler.proofs.ListedLaws.{enough, gathers_within, gathers_count, gathers_listed, gathers_ascending}
 use Rattle.compiler.proofs.judge.lacking.Statement.{statement}
 use Rattle.compiler.proofs.judge.lacking.Tie as tie
 
@@ -22,26 +22,26 @@ gather-requires c κs =
 array-share-prefix-tables : tie.Need-array-share-prefix-tables
 array-share-prefix-tables c =
     let s = c.before.before.before.before.before in
-    gathers-within c.before.gather.ensures (enough 1 s.args.text.now s.requires.0) c.before.gather.auto.1.0
+    gathers_within c.before.gather.ensures (enough 1 s.args.text.now s.requires.0) c.before.gather.auto.1.0
 
 slice-aggregate-first-undefined : tie.Need-slice-aggregate-first-undefined
 slice-aggregate-first-undefined c =
     let s = c.before.before.before.before.before.before in
     let g = c.before.before.gather in
-    gathers-count g.ensures (enough 1 s.args.text.now s.requires.0) g.auto.1.0
+    gathers_count g.ensures (enough 1 s.args.text.now s.requires.0) g.auto.1.0
 
 first-undefined-requires : tie.Need-first-undefined-requires
 first-undefined-requires c κs =
     let s = c.before.before.before.before.before.before in
-    (rw s.requires.1 (gathered-ascending head_of (lexemes s.args.text.now)), gathers-ascending c.before.before.gather.ensures)
+    (rw s.requires.1 (gathered_ascending head_of (lexemes s.args.text.now)), gathers_ascending c.before.before.gather.ensures)
 
 returns : tie.Need-returns
 returns c ps r =
     let s = c.before.before.before.before.before.before.before in
     let text = s.args.text.now in
     c.first-undefined.ensures
-    ∙ rw (s.requires.1, gathers-listed c.before.before.before.gather.ensures)
-    (ap (found (namePlace text)) (undefined-gathered r (lexemes text)))
+    ∙ rw (s.requires.1, gathers_listed c.before.before.before.gather.ensures)
+    (ap (found (namePlace text)) (undefined_gathered r (lexemes text)))
 
 pub lacking-spec : {M : Type 1} → statement M
 lacking-spec =

@@ -1,6 +1,6 @@
 -- `limits` meets its promise: each search in its turn. Assumes nothing.
 use borrow.Author.Rules.{rules}
-use Rattle.compiler.proofs.JudgeLaws.{refused-first, passed_first}
+use Rattle.compiler.proofs.JudgeLaws.{refused_first, passed_first}
 use Rattle.compiler.proofs.judge.limits.Statement.{statement}
 use Rattle.compiler.proofs.judge.limits.Tie as tie
 
@@ -11,7 +11,7 @@ enum-known-table : tie.Need-enum-known-table
 enum-known-table c = search rules
 
 returns : tie.Need-returns
-returns c ps r = refused-first 24 _ c.before.before.before.ninth.ensures c.before.table.given.1
+returns c ps r = refused_first 24 _ c.before.before.before.ninth.ensures c.before.table.given.1
 
 enum_told : tie.Need-enum-told
 enum_told c = search rules
@@ -25,7 +25,7 @@ enum-known-switch c = search rules
 returns-2 : tie.Need-returns-2
 returns-2 c ps r =
     passed_first 24 c.before.before.before.before.before.before.ninth.ensures c.before.before.before.before.enum_told.given.1
-    (refused-first 24 _ c.before.before.before.ninth2.ensures c.before.switch.given.1)
+    (refused_first 24 _ c.before.before.before.ninth2.ensures c.before.switch.given.1)
 
 enum-told-2 : tie.Need-enum-told-2
 enum-told-2 c = search rules
@@ -40,7 +40,7 @@ returns-3 : tie.Need-returns-3
 returns-3 c ps r =
     passed_first 24 c.before.before.before.before.before.before.before.before.before.ninth.ensures c.before.before.before.before.before.before.before.enum_told.given.1
     (passed_first 24 c.before.before.before.before.before.before.ninth2.ensures c.before.before.before.before.enum-told2.given.1
-    (refused-first 24 _ c.before.before.before.first-long.ensures c.before.long.given.1))
+    (refused_first 24 _ c.before.before.before.first-long.ensures c.before.long.given.1))
 
 enum-told-3 : tie.Need-enum-told-3
 enum-told-3 c = search rules

@@ -2,7 +2,7 @@
 use mathlib.Core.Path.{ap, ap₂, ◌∙◌}
 use borrow.Author.Rules.{rules}
 use Rattle.compiler.specs.Judges.{refusal, ◌then◌}
-use Rattle.compiler.proofs.ListedLaws.{enough, gathers-within, gathers-count, gathers-listed}
+use Rattle.compiler.proofs.ListedLaws.{enough, gathers_within, gathers_count, gathers_listed}
 use Rattle.compiler.proofs.judge.names.Statement.{statement}
 use Rattle.compiler.proofs.judge.names.Tie as tie
 
@@ -15,17 +15,17 @@ gather-requires c κs = let s = c.before.before in (s.requires, enough 0 s.args.
 array-share-prefix-heads : tie.Need-array-share-prefix-heads
 array-share-prefix-heads c =
     let s = c.before.before.before.before in
-    gathers-within c.before.gather.ensures (enough 0 s.args.text.now s.requires) c.before.gather.auto.1.0
+    gathers_within c.before.gather.ensures (enough 0 s.args.text.now s.requires) c.before.gather.auto.1.0
 
 slice-aggregate-lacking : tie.Need-slice-aggregate-lacking
 slice-aggregate-lacking c =
     let s = c.before.before.before.before.before in
     let g = c.before.before.gather in
-    gathers-count g.ensures (enough 0 s.args.text.now s.requires) g.auto.1.0
+    gathers_count g.ensures (enough 0 s.args.text.now s.requires) g.auto.1.0
 
 lacking-requires : tie.Need-lacking-requires
 lacking-requires c κs =
-    let s = c.before.before.before.before.before in (s.requires, gathers-listed c.before.before.gather.ensures)
+    let s = c.before.before.before.before.before in (s.requires, gathers_listed c.before.before.gather.ensures)
 
 refusal-requires : tie.Need-refusal-requires
 refusal-requires c κs = search rules

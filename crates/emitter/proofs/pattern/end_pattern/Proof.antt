@@ -4,12 +4,12 @@ use native.Mathlib.Omega.{arith}
 use lib.ListN.{length, set, length-set}
 use Rattle.notation.specs.At.{name_at}
 use Rattle.notation.specs.Patterns.{ends_at, put}
-use Rattle.index.specs.PlaceLaws.{names-length}
+use Rattle.index.specs.PlaceLaws.{names_length}
 use Rattle.writer.specs.Named.{names_of}
-use Rattle.notation.specs.BelowLaws.{place-below}
+use Rattle.notation.specs.BelowLaws.{place_below}
 use Rattle.emitter.specs.Known.{Tells}
-use Rattle.emitter.specs.KnownLaws.{known-node, tells-put}
-use Rattle.emitter.proofs.MarkLaws.{brings-it, brings-none}
+use Rattle.emitter.specs.KnownLaws.{known_node, tells_put}
+use Rattle.emitter.proofs.MarkLaws.{brings_it, brings_none}
 use borrow.Author.Rules.{rules}
 use Rattle.emitter.proofs.pattern.end_pattern.Statement.{statement}
 use Rattle.emitter.proofs.pattern.end_pattern.Tie as tie
@@ -25,7 +25,7 @@ slice-write-patterns c = let s = c.before.before.before.before.before in
     let a = s.args in
     let t = name_at a.text.now a.p in
     let ts = names_of a.text.now a.tables.now in
-    omega (arith, s.requires.1, c.place_of.ensures.0, place-below t ts (s.requires.2 c.before.if1.true), names-length a.text.now a.tables.now (length a.tables.now) (omega arith))
+    omega (arith, s.requires.1, c.place_of.ensures.0, place_below t ts (s.requires.2 c.before.if1.true), names_length a.text.now a.tables.now (length a.tables.now) (omega arith))
 
 same_length : tie.Need-same-length
 same_length c = search rules
@@ -36,9 +36,9 @@ returns c = let s = c.before.before.before.before.before in
     let t = name_at a.text.now a.p in
     let ts = names_of a.text.now a.tables.now in
     record {
-      tells = λ f T. rw (brings-it a.mark t c.before.if1.true)
+      tells = λ f T. rw (brings_it a.mark t c.before.if1.true)
           (subst (λ i. Tells (set a.patterns.now i a.node) ts (put t (ends_at a.node) f)) (sym c.place_of.ensures.0)
-          (rw (known-node a.node s.requires.3) at (tells-put a.patterns.now ts t f T s.requires.0 a.node)));
+          (rw (known_node a.node s.requires.3) at (tells_put a.patterns.now ts t f T s.requires.0 a.node)));
       long = simp length-set;
     }
 
@@ -47,7 +47,7 @@ returns-2 c = let s = c.before.before.before.before in
     let a = s.args in
     let t = name_at a.text.now a.p in
     let ts = names_of a.text.now a.tables.now in
-    record { tells = λ f T. rw (brings-none a.mark t c.if1.false) T; long = refl }
+    record { tells = λ f T. rw (brings_none a.mark t c.if1.false) T; long = refl }
 
 pub end-pattern-spec : {M : Type 1} → statement M
 end-pattern-spec =

@@ -11,7 +11,7 @@ same_length : tie.Need-same-length
 same_length c = search rules
 
 returns : tie.Need-returns
-returns c = record { ends-one = c.before.before.end-production.ensures; state = refl }
+returns c = record { ends_one = c.before.before.end-production.ensures; state = refl }
 
 pub begin-spec : {M : Type 1} → statement M
 begin-spec = tie.close (tie.spec end-production-requires same_length returns)

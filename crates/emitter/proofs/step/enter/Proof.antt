@@ -1,6 +1,6 @@
 -- `enter` meets its promise. Assumes nothing.
 use native.Mathlib.Omega.{arith}
-use Rattle.emitter.specs.ShownLaws.{enters-set}
+use Rattle.emitter.specs.ShownLaws.{enters_set}
 use borrow.Author.Rules.{rules}
 use Rattle.emitter.proofs.step.enter.Statement.{statement}
 use Rattle.emitter.proofs.step.enter.Tie as tie
@@ -25,7 +25,7 @@ same_length c = search rules
 
 returns : tie.Need-returns
 returns c = let a = c.before.before.before.before.before.before.before.before.before.args in
-    rw c.kept.ensures (enters-set a.opened.now a.s (omega arith) c.before.before.before.begin-operator.ensures)
+    rw c.kept.ensures (enters_set a.opened.now a.s (omega arith) c.before.before.before.begin-operator.ensures)
 
 pub enter_spec : {M : Type 1} → statement M
 enter_spec =

@@ -1,5 +1,5 @@
 -- `follow` meets its promise. Assumes nothing.
-use Rattle.emitter.specs.ShownLaws.{grows-settled}
+use Rattle.emitter.specs.ShownLaws.{grows_settled}
 use borrow.Author.Rules.{rules}
 use Rattle.emitter.proofs.step.follow.Statement.{statement}
 use Rattle.emitter.proofs.step.follow.Tie as tie
@@ -23,7 +23,7 @@ same_length : tie.Need-same-length
 same_length c = search rules
 
 returns : tie.Need-returns
-returns c = grows-settled c.before.before.before.before.add-unary.ensures c.settle.ensures
+returns c = grows_settled c.before.before.before.before.add-unary.ensures c.settle.ensures
 
 pub follow-spec : {M : Type 1} → statement M
 follow-spec =

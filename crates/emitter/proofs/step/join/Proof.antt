@@ -1,5 +1,5 @@
 -- `join` meets its promise. Assumes nothing.
-use Rattle.emitter.specs.ShownLaws.{grows-settled}
+use Rattle.emitter.specs.ShownLaws.{grows_settled}
 use borrow.Author.Rules.{rules}
 use Rattle.emitter.proofs.step.join.Statement.{statement}
 use Rattle.emitter.proofs.step.join.Tie as tie
@@ -32,7 +32,7 @@ same_length : tie.Need-same-length
 same_length c = search rules
 
 returns : tie.Need-returns
-returns c = grows-settled c.before.before.before.before.add-binary.ensures c.settle.ensures
+returns c = grows_settled c.before.before.before.before.add-binary.ensures c.settle.ensures
 
 pub join-spec : {M : Type 1} → statement M
 join-spec =

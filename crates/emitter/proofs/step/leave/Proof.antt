@@ -7,10 +7,10 @@ use native.Mathlib.Omega.{arith}
 use lib.ListN.{get_or}
 use Rattle.notation.specs.At.{name_at}
 use Rattle.notation.specs.Naming.{member}
-use Rattle.writer.specs.Named.{names_of, operatorBy}
-use Rattle.writer.specs.Operator.{openerOf}
-use Rattle.writer.specs.PutLaws.{adds-as}
-use Rattle.emitter.specs.ShownLaws.{grows-settled}
+use Rattle.writer.specs.Named.{names_of, operator_by}
+use Rattle.writer.specs.Operator.{opener_of}
+use Rattle.writer.specs.PutLaws.{adds_as}
+use Rattle.emitter.specs.ShownLaws.{grows_settled}
 use borrow.Author.Rules.{rules}
 use Rattle.emitter.proofs.step.leave.Statement.{statement}
 use Rattle.emitter.proofs.step.leave.Tie as tie
@@ -39,7 +39,7 @@ cast-end-pattern c = search rules
 end-pattern-requires : tie.Need-end-pattern-requires
 end-pattern-requires c κs = let s = c.before.before.before.before.before.before.before.before.before.before.before in
     let a = s.args in (
-      s.requires.0.0.tables-listed,
+      s.requires.0.0.tables_listed,
       s.requires.0.1,
       λ e. subst (λ p. member (name_at a.text.now p) (names_of a.text.now a.tables.now) ≡ true) (sym c.before.before.place_kept.ensures) (s.requires.0.2 e),
       omega (arith, s.requires.1.0.few),
@@ -74,8 +74,8 @@ returns c = let a = c.before.before.before.before.before.before.before.before.be
     let mark = get_or a.opened.now (a.s.openers - 1) 0 % 16 in
     let operand = get_or a.done.now (a.s.complete - 1) 0 in
     let e = c.before.before.before.before.before.before.before.before.before.before.before.before.before.place_kept.ensures in (
-      λ production. grows-settled
-          (adds-as (ap (λ p. operatorBy a.text.now a.tables.now a.switches.now production (openerOf mark (name_at a.text.now p)) operand ∷ []) e)
+      λ production. grows_settled
+          (adds_as (ap (λ p. operator_by a.text.now a.tables.now a.switches.now production (opener_of mark (name_at a.text.now p)) operand ∷ []) e)
           (c.before.before.before.before.add-operator.ensures production)) c.settle.ensures,
       rw e at c.before.before.before.before.before.before.before.before.before.before.end-pattern.ensures,
     )

@@ -1,5 +1,5 @@
 -- `node_of` meets its promise: by the tag. Assumes nothing.
-use Rattle.image.specs.NodeLaws.{kind_at, kind-last}
+use Rattle.image.specs.NodeLaws.{kind_at, kind_last}
 use borrow.Author.Rules.{rules}
 use Rattle.image.proofs.node.node_of.Statement.{statement}
 use Rattle.image.proofs.node.node_of.Tie as tie
@@ -68,7 +68,7 @@ returns-18 : tie.Need-returns-18
 returns-18 c = kind_at c.before.args.word 17 c.match.keys18
 
 returns-19 : tie.Need-returns-19
-returns-19 c = kind-last c.before.args.word c.match.rest
+returns-19 c = kind_last c.before.args.word c.match.rest
 
 pub node-of-spec : {M : Type 1} → statement M
 node-of-spec =

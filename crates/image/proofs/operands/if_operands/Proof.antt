@@ -2,7 +2,7 @@
 use mathlib.Core.Path.{ap, ◌∙◌}
 use native.Mathlib.Omega.{arith}
 use Rattle.image.proofs.ReadLaws.{stays, goes}
-use Rattle.image.proofs.ShapeLaws.{switch-below}
+use Rattle.image.proofs.ShapeLaws.{switch_below}
 use Rattle.format.specs.Reading.{got}
 use Rattle.image.specs.Shapes.{word1}
 use borrow.Author.Rules.{rules}
@@ -26,7 +26,7 @@ word-requires c κs =
     let s1 = c.before in
     let s2 = s1.before.before in
     let s3 = s2.before.before in
-    let a = s3.args in omega (arith, switch-below a.image.now a.conditions a.at s2.switch.ensures s1.r.given.1)
+    let a = s3.args in omega (arith, switch_below a.image.now a.conditions a.at s2.switch.ensures s1.r.given.1)
 
 returns-2 : tie.Need-returns-2
 returns-2 c =

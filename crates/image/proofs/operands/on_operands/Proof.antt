@@ -2,7 +2,7 @@
 use mathlib.Core.Path.{ap, ◌∙◌}
 use native.Mathlib.Omega.{arith}
 use Rattle.image.proofs.ReadLaws.{stays, goes, under}
-use Rattle.image.proofs.ShapeLaws.{switch-below}
+use Rattle.image.proofs.ShapeLaws.{switch_below}
 use Rattle.format.specs.Reading.{got}
 use Rattle.image.specs.Shapes.{word2, last_at}
 use borrow.Author.Rules.{rules}
@@ -55,7 +55,7 @@ word-requires c κs =
     let a = s5.args in
     omega (
       arith,
-      switch-below a.image.now a.conditions a.at s4.switch.ensures s3.r.given.1,
+      switch_below a.image.now a.conditions a.at s4.switch.ensures s3.r.given.1,
       under a.image.now 7 0 a.own_val s3.r.given.0.0.next s2.bounded.ensures s1.t.given.1,
     )
 

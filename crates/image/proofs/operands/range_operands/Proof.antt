@@ -3,7 +3,7 @@ use mathlib.Core.Path.{ap, ◌∙◌}
 use native.Mathlib.Omega.{arith}
 use Rattle.image.proofs.ReadLaws.{stays, goes, under}
 use Rattle.format.specs.Reading.{got}
-use Rattle.image.specs.Shapes.{word2, highAt}
+use Rattle.image.specs.Shapes.{word2, high_at}
 use borrow.Author.Rules.{rules}
 use Rattle.image.proofs.operands.range_operands.Statement.{statement}
 use Rattle.image.proofs.operands.range_operands.Tie as tie
@@ -22,7 +22,7 @@ returns c =
     let s1 = c.before in
     let s2 = s1.before in
     let s3 = s2.before.before in
-    stays s2.bounded.result s1.match.keys2 (highAt s3.args.image.now) s2.bounded.ensures
+    stays s2.bounded.result s1.match.keys2 (high_at s3.args.image.now) s2.bounded.ensures
 
 bounded-requires-2 : tie.Need-bounded-requires-2
 bounded-requires-2 c κs = search rules
@@ -41,7 +41,7 @@ returns-2 c =
     let s4 = s3.before.before in
     let s5 = s4.before.before in
     stays s2.bounded2.result s1.match2.keys2 (word2 2 s3.r.given.0.0.value) s2.bounded2.ensures
-    ∙ goes (highAt s5.args.image.now) s4.bounded.ensures s3.r.given.1
+    ∙ goes (high_at s5.args.image.now) s4.bounded.ensures s3.r.given.1
 
 word-requires : tie.Need-word-requires
 word-requires c κs =
@@ -66,7 +66,7 @@ returns-3 c =
     let s5 = s4.before.before in
     ap (λ w. got w s1.h.given.0.0.next) c.word.ensures
     ∙ goes (word2 2 s3.r.given.0.0.value) s2.bounded2.ensures s1.h.given.1
-    ∙ goes (highAt s5.args.image.now) s4.bounded.ensures s3.r.given.1
+    ∙ goes (high_at s5.args.image.now) s4.bounded.ensures s3.r.given.1
 
 pub range-operands-spec : {M : Type 1} → statement M
 range-operands-spec =

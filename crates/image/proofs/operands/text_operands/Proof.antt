@@ -2,7 +2,7 @@
 use mathlib.Core.Path.{ap, ◌∙◌}
 use native.Mathlib.Omega.{arith}
 use Rattle.image.proofs.ReadLaws.{stays, goes, under}
-use Rattle.image.proofs.ShapeLaws.{bytes_cut, bytes-there}
+use Rattle.image.proofs.ShapeLaws.{bytes_cut, bytes_there}
 use Prim.Native.Nat.{◌+◌}
 use Rattle.format.specs.Reading.{got}
 use Rattle.image.specs.Shapes.{bytes_at}
@@ -67,7 +67,7 @@ returns-4 c =
     let s3 = s2.before.before in
     let a = s3.args in let k = s1.r.given.0.0 in
     ap (λ w. got w (k.next + k.value)) c.word.ensures
-    ∙ bytes-there a.image.now k.value k.next (omega arith)
+    ∙ bytes_there a.image.now k.value k.next (omega arith)
     ∙ goes (bytes_at a.image.now) s2.bounded.ensures s1.r.given.1
 
 pub text-operands-spec : {M : Type 1} → statement M

@@ -3,7 +3,7 @@ use Prim.Native.Nat.{ℕ}
 use mathlib.Core.Path.{◌≡◌, ap, ◌∙◌}
 use native.Mathlib.Omega.{arith}
 use Rattle.image.proofs.ReadLaws.{stays, goes, under}
-use Rattle.image.proofs.ShapeLaws.{operandsAt, word_of, empty-word, byte_word, range-word, any_word, text-word, pair-word, child-word, call-word, table-word, scope-word, if_word, on_word}
+use Rattle.image.proofs.ShapeLaws.{operands_at, word_of, empty_word, byte_word, range_word, any_word, text_word, pair_word, child_word, call_word, table_word, scope_word, if_word, on_word}
 use Rattle.format.specs.Reading.{Reading, got}
 use Rattle.image.specs.Word.{word_at}
 use borrow.Author.Rules.{rules}
@@ -13,12 +13,12 @@ use Rattle.image.proofs.operands.word_at.Tie as tie
 -- What is read after the tag is what is read at the place.
 whole : (c : tie.After-known-told) {x : Reading ℕ}
     → (let a = c.before.before.before.before.before.args in let t = c.before.r.given.0.0 in
-    x ≡ operandsAt a.image.now a.tables a.conditions a.nodes a.own_val t.value t.next)
+    x ≡ operands_at a.image.now a.tables a.conditions a.nodes a.own_val t.value t.next)
     → (let a = c.before.before.before.before.before.args in
     x ≡ word_at a.image.now a.tables a.conditions a.nodes a.own_val a.at)
 whole c e =
     let a = c.before.before.before.before.before.args in
-    e ∙ goes (operandsAt a.image.now a.tables a.conditions a.nodes a.own_val) c.before.before.before.bounded.ensures
+    e ∙ goes (operands_at a.image.now a.tables a.conditions a.nodes a.own_val) c.before.before.before.bounded.ensures
     c.before.r.given.1
     ∙ word_of a.image.now a.tables a.conditions a.nodes a.own_val a.at
 
@@ -37,7 +37,7 @@ returns c =
     let s2 = s1.before in
     let s3 = s2.before.before in
     let a = s3.args in
-    stays s2.bounded.result s1.match.keys2 (operandsAt a.image.now a.tables a.conditions a.nodes a.own_val)
+    stays s2.bounded.result s1.match.keys2 (operands_at a.image.now a.tables a.conditions a.nodes a.own_val)
     s2.bounded.ensures
     ∙ word_of a.image.now a.tables a.conditions a.nodes a.own_val a.at
 
@@ -51,7 +51,7 @@ returns-2 c =
     let s3 = s2.before.before.before.before in
     let a = s3.args in let t = s2.r.given.0.0 in
     whole s1 (ap (λ w. got w t.next) c.word.ensures
-    ∙ empty-word a.image.now a.tables a.conditions a.nodes a.own_val t.value t.next (omega arith))
+    ∙ empty_word a.image.now a.tables a.conditions a.nodes a.own_val t.value t.next (omega arith))
 
 one-operand-requires : tie.Need-one-operand-requires
 one-operand-requires c κs = search rules
@@ -75,7 +75,7 @@ returns-4 c =
     let s3 = s2.before.before.before.before in
     let a = s3.args in let t = s2.r.given.0.0 in
     whole s1 (c.range-operands.ensures
-    ∙ range-word a.image.now a.tables a.conditions a.nodes a.own_val t.value t.next (omega arith) (omega arith))
+    ∙ range_word a.image.now a.tables a.conditions a.nodes a.own_val t.value t.next (omega arith) (omega arith))
 
 word-requires-2 : tie.Need-word-requires-2
 word-requires-2 c κs = search rules
@@ -99,7 +99,7 @@ returns-6 c =
     let s3 = s2.before.before.before.before in
     let a = s3.args in let t = s2.r.given.0.0 in
     whole s1 (c.text-operands.ensures
-    ∙ text-word a.image.now a.tables a.conditions a.nodes a.own_val t.value t.next (omega arith) (omega arith))
+    ∙ text_word a.image.now a.tables a.conditions a.nodes a.own_val t.value t.next (omega arith) (omega arith))
 
 two-operands-requires : tie.Need-two-operands-requires
 two-operands-requires c κs = search rules
@@ -111,7 +111,7 @@ returns-7 c =
     let s3 = s2.before.before.before.before in
     let a = s3.args in let t = s2.r.given.0.0 in
     whole s1 (c.two_operands.ensures
-    ∙ pair-word a.image.now a.tables a.conditions a.nodes a.own_val t.value t.next (omega arith) (omega arith))
+    ∙ pair_word a.image.now a.tables a.conditions a.nodes a.own_val t.value t.next (omega arith) (omega arith))
 
 one-operand-requires-2 : tie.Need-one-operand-requires-2
 one-operand-requires-2 c κs = search rules
@@ -123,7 +123,7 @@ returns-8 c =
     let s3 = s2.before.before.before.before in
     let a = s3.args in let t = s2.r.given.0.0 in
     whole s1 (c.one-operand2.ensures
-    ∙ child-word a.image.now a.tables a.conditions a.nodes a.own_val t.value t.next (omega arith) (omega arith))
+    ∙ child_word a.image.now a.tables a.conditions a.nodes a.own_val t.value t.next (omega arith) (omega arith))
 
 one-operand-requires-3 : tie.Need-one-operand-requires-3
 one-operand-requires-3 c κs = search rules
@@ -135,7 +135,7 @@ returns-9 c =
     let s3 = s2.before.before.before.before in
     let a = s3.args in let t = s2.r.given.0.0 in
     whole s1 (c.one-operand3.ensures
-    ∙ call-word a.image.now a.tables a.conditions a.nodes a.own_val t.value t.next (omega arith) (omega arith))
+    ∙ call_word a.image.now a.tables a.conditions a.nodes a.own_val t.value t.next (omega arith) (omega arith))
 
 one-operand-requires-4 : tie.Need-one-operand-requires-4
 one-operand-requires-4 c κs = search rules
@@ -147,7 +147,7 @@ returns-10 c =
     let s3 = s2.before.before.before.before in
     let a = s3.args in let t = s2.r.given.0.0 in
     whole s1 (c.one-operand4.ensures
-    ∙ table-word a.image.now a.tables a.conditions a.nodes a.own_val t.value t.next (omega arith) (omega arith))
+    ∙ table_word a.image.now a.tables a.conditions a.nodes a.own_val t.value t.next (omega arith) (omega arith))
 
 two-operands-requires-2 : tie.Need-two-operands-requires-2
 two-operands-requires-2 c κs = search rules
@@ -159,7 +159,7 @@ returns-11 c =
     let s3 = s2.before.before.before.before in
     let a = s3.args in let t = s2.r.given.0.0 in
     whole s1 (c.two-operands2.ensures
-    ∙ scope-word a.image.now a.tables a.conditions a.nodes a.own_val t.value t.next (omega arith) (omega arith))
+    ∙ scope_word a.image.now a.tables a.conditions a.nodes a.own_val t.value t.next (omega arith) (omega arith))
 
 if-operands-requires : tie.Need-if-operands-requires
 if-operands-requires c κs = search rules

@@ -1,8 +1,8 @@
 -- `check` meets its promise: what `load` says, as two numbers. Assumes nothing.
 use mathlib.Core.Path.{ap, sym}
 use native.Mathlib.Omega.{arith}
-use Rattle.image.proofs.VerdictLaws.{says-good, says-refused, place-small}
-use Rattle.format.specs.Image.{readImage}
+use Rattle.image.proofs.VerdictLaws.{says_good, says_refused, place_small}
+use Rattle.format.specs.Image.{read_image}
 use Rattle.image.specs.Meant.{verdict}
 use borrow.Author.Rules.{rules}
 use Rattle.image.proofs.walk.check.Statement.{statement}
@@ -26,7 +26,7 @@ cast-t7 c =
     let a = s4.args in
     omega (
       arith,
-      place-small a.image.now (λ i. omega (arith, s3.shared-slice-known.given i)) s1.r.given.1
+      place_small a.image.now (λ i. omega (arith, s3.shared-slice-known.given i)) s1.r.given.1
           s2.load.ensures.answer,
     )
 
@@ -35,14 +35,14 @@ returns c =
     let s1 = c.before in
     let s2 = s1.before in
     let s3 = s2.before.before.before in
-    says-good (readImage s3.args.image.now) s1.match.keys1 s2.load.ensures.answer
+    says_good (read_image s3.args.image.now) s1.match.keys1 s2.load.ensures.answer
 
 returns-2 : tie.Need-returns-2
 returns-2 c =
     let s1 = c.before.before in
     let s2 = s1.before.before in
     let s3 = s2.before.before.before in
-    ap verdict (sym (says-refused (readImage s3.args.image.now) s1.r.given.1 s2.load.ensures.answer))
+    ap verdict (sym (says_refused (read_image s3.args.image.now) s1.r.given.1 s2.load.ensures.answer))
 
 pub check-spec : {M : Type 1} → statement M
 check-spec = tie.close (tie.spec load-requires enum_told enum-known-r cast-t7 returns returns-2)

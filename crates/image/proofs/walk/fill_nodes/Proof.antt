@@ -3,8 +3,8 @@
 use Prim.Native.Nat.{◌-◌}
 use borrow.Author.Rules.{rules}
 use native.Mathlib.Omega.{arith}
-use Rattle.image.proofs.FillLaws.{put-down, refused-at, all-down}
-use Rattle.image.specs.FilledLaws.{Filling, filling-starts}
+use Rattle.image.proofs.FillLaws.{put_down, refused_at, all_down}
+use Rattle.image.specs.FilledLaws.{Filling, filling_starts}
 use Rattle.image.specs.Word.{word_at}
 use Rattle.image.proofs.walk.fill_nodes.Statement.{statement}
 use Rattle.image.proofs.walk.fill_nodes.Tie as tie
@@ -19,7 +19,7 @@ decreases-loop image code₀ start tables conditions nodes i₀ at₀ code i at 
 loop-holds : tie.Need-loop-init invariant-loop decreases-loop
 loop-holds c =
     let a = c.before.args in
-    filling-starts (word_at a.image.now a.tables a.conditions a.nodes) 0 a.nodes a.start a.code.now
+    filling_starts (word_at a.image.now a.tables a.conditions a.nodes) 0 a.nodes a.start a.code.now
 
 word-at-requires : tie.Need-word-at-requires invariant-loop decreases-loop
 word-at-requires c κs = omega arith
@@ -37,8 +37,8 @@ returns c =
     let s3 = s2.before.before in
     let s4 = s3.before.before in
     let a = s4.args in
-    refused-at (word_at a.image.now a.tables a.conditions a.nodes) 0 a.nodes s3.loop.invariant (omega arith)
-    s2.word-at.result s1.match.keys2 s2.word-at.ensures
+    refused_at (word_at a.image.now a.tables a.conditions a.nodes) 0 a.nodes s3.loop.invariant (omega arith)
+    s2.word_at_lem.result s1.match.keys2 s2.word_at_lem.ensures
 
 cast-code : tie.Need-overflow-cast-code invariant-loop decreases-loop
 cast-code c = search rules
@@ -62,15 +62,15 @@ loop-again c =
     let s3 = s2.before.before in
     let s4 = s3.before.before in
     let a = s4.args in
-    put-down (word_at a.image.now a.tables a.conditions a.nodes) 0 a.nodes s3.loop.invariant s3.loop.i (omega arith)
-    (omega arith) s2.word-at.ensures s1.r.given.1
+    put_down (word_at a.image.now a.tables a.conditions a.nodes) 0 a.nodes s3.loop.invariant s3.loop.i (omega arith)
+    (omega arith) s2.word_at_lem.ensures s1.r.given.1
 
 returns-2 : tie.Need-returns-2 invariant-loop decreases-loop
 returns-2 c =
     let s1 = c.before in
     let s2 = s1.before.before in
     let a = s2.args in
-    all-down (word_at a.image.now a.tables a.conditions a.nodes) 0 a.nodes s1.loop.invariant (omega arith)
+    all_down (word_at a.image.now a.tables a.conditions a.nodes) 0 a.nodes s1.loop.invariant (omega arith)
 
 pub fill-nodes-spec : {M : Type 1} → statement M
 fill-nodes-spec =

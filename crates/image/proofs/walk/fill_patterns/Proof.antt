@@ -3,8 +3,8 @@
 use Prim.Native.Nat.{◌+◌, ◌-◌}
 use borrow.Author.Rules.{rules}
 use native.Mathlib.Omega.{arith}
-use Rattle.image.proofs.FillLaws.{put-down, refused-at, all-down}
-use Rattle.image.specs.FilledLaws.{Filling, filling-starts}
+use Rattle.image.proofs.FillLaws.{put_down, refused_at, all_down}
+use Rattle.image.specs.FilledLaws.{Filling, filling_starts}
 use Rattle.format.specs.Image.{bounded}
 use Rattle.image.proofs.walk.fill_patterns.Statement.{statement}
 use Rattle.image.proofs.walk.fill_patterns.Tie as tie
@@ -17,7 +17,7 @@ decreases-loop image code₀ start tables nodes t₀ at₀ code t at = tables - 
 
 loop-holds : tie.Need-loop-init invariant-loop decreases-loop
 loop-holds c =
-    let a = c.before.args in filling-starts (λ t. bounded a.image.now 7 0 a.nodes) 512 a.tables a.start a.code.now
+    let a = c.before.args in filling_starts (λ t. bounded a.image.now 7 0 a.nodes) 512 a.tables a.start a.code.now
 
 bounded-requires : tie.Need-bounded-requires invariant-loop decreases-loop
 bounded-requires c κs = omega arith
@@ -35,7 +35,7 @@ returns c =
     let s3 = s2.before.before in
     let s4 = s3.before.before in
     let a = s4.args in
-    refused-at (λ t. bounded a.image.now 7 0 a.nodes) 512 a.tables s3.loop.invariant (omega arith) s2.bounded.result
+    refused_at (λ t. bounded a.image.now 7 0 a.nodes) 512 a.tables s3.loop.invariant (omega arith) s2.bounded.result
     s1.match.keys2 s2.bounded.ensures
 
 add-code : tie.Need-overflow-add-code invariant-loop decreases-loop
@@ -63,7 +63,7 @@ loop-again c =
     let s3 = s2.before.before in
     let s4 = s3.before.before in
     let a = s4.args in
-    put-down (λ t. bounded a.image.now 7 0 a.nodes) 512 a.tables s3.loop.invariant (512 + s3.loop.t) (omega arith) (omega arith)
+    put_down (λ t. bounded a.image.now 7 0 a.nodes) 512 a.tables s3.loop.invariant (512 + s3.loop.t) (omega arith) (omega arith)
     s2.bounded.ensures s1.r.given.1
 
 returns-2 : tie.Need-returns-2 invariant-loop decreases-loop
@@ -71,7 +71,7 @@ returns-2 c =
     let s1 = c.before in
     let s2 = s1.before.before in
     let a = s2.args in
-    all-down (λ t. bounded a.image.now 7 0 a.nodes) 512 a.tables s1.loop.invariant (omega arith)
+    all_down (λ t. bounded a.image.now 7 0 a.nodes) 512 a.tables s1.loop.invariant (omega arith)
 
 pub fill-patterns-spec : {M : Type 1} → statement M
 fill-patterns-spec =

@@ -2,41 +2,41 @@
 use Prim.Native.Nat.{ℕ}
 use mathlib.Core.Path.{◌≡◌, ◌∙◌}
 use Rattle.image.proofs.ReadLaws.{goes, breaks}
-use Rattle.image.proofs.HeadLaws.{found, afterNodes, afterConditions, afterTables, afterEdition}
+use Rattle.image.proofs.HeadLaws.{found, after_nodes, after_conditions, after_tables, after_edition}
 use Rattle.format.specs.Reading.{Reading}
-use Rattle.format.specs.Image.{Head, headAt}
+use Rattle.format.specs.Image.{Head, head_at}
 use borrow.Author.Rules.{rules}
 use Rattle.image.proofs.walk.head_of.Statement.{statement}
 use Rattle.image.proofs.walk.head_of.Tie as tie
 
 -- What is read from each number on is what is read from the start.
-from-edition : (c : tie.After-known-told) {x : Reading Head}
+from_edition : (c : tie.After-known-told) {x : Reading Head}
     → (let a = c.before.before.before.before.before.args in let n = c.before.r.given.0.0 in
-    x ≡ afterEdition a.image.now n.value n.next)
-    → x ≡ headAt c.before.before.before.before.before.args.image.now
-from-edition c e =
+    x ≡ after_edition a.image.now n.value n.next)
+    → x ≡ head_at c.before.before.before.before.before.args.image.now
+from_edition c e =
     let a = c.before.before.before.before.before.args in
-    e ∙ goes (afterEdition a.image.now) c.before.before.before.bounded.ensures c.before.r.given.1
+    e ∙ goes (after_edition a.image.now) c.before.before.before.bounded.ensures c.before.r.given.1
 
-from-tables : (c : tie.After-known-told3) {x : Reading Head}
+from_tables : (c : tie.After-known-told3) {x : Reading Head}
     → (let s = c.before.before.before.before in let a = s.before.before.before.before.before.args in
     let n = c.before.r3.given.0.0 in
-    x ≡ afterTables a.image.now n.value n.next)
-    → (let s = c.before.before.before.before in x ≡ headAt s.before.before.before.before.before.args.image.now)
-from-tables c e =
+    x ≡ after_tables a.image.now n.value n.next)
+    → (let s = c.before.before.before.before in x ≡ head_at s.before.before.before.before.before.args.image.now)
+from_tables c e =
     let s = c.before.before.before.before in let a = s.before.before.before.before.before.args in
-    from-edition s (e ∙ goes (afterTables a.image.now) c.before.before.before.bounded2.ensures c.before.r3.given.1)
+    from_edition s (e ∙ goes (after_tables a.image.now) c.before.before.before.bounded2.ensures c.before.r3.given.1)
 
-from-conditions : (c : tie.After-known-told5) {x : Reading Head}
+from_conditions : (c : tie.After-known-told5) {x : Reading Head}
     → (let s = c.before.before.before.before in let s' = s.before.before.before.before in
     let a = s'.before.before.before.before.before.args in let n = c.before.r5.given.0.0 in
-    x ≡ afterConditions a.image.now s.before.r3.given.0.0.value n.value n.next)
+    x ≡ after_conditions a.image.now s.before.r3.given.0.0.value n.value n.next)
     → (let s = c.before.before.before.before in let s' = s.before.before.before.before in
-    x ≡ headAt s'.before.before.before.before.before.args.image.now)
-from-conditions c e =
+    x ≡ head_at s'.before.before.before.before.before.args.image.now)
+from_conditions c e =
     let s = c.before.before.before.before in let s' = s.before.before.before.before in
     let a = s'.before.before.before.before.before.args in
-    from-tables s (e ∙ goes (afterConditions a.image.now s.before.r3.given.0.0.value)
+    from_tables s (e ∙ goes (after_conditions a.image.now s.before.r3.given.0.0.value)
     c.before.before.before.bounded3.ensures c.before.r5.given.1)
 
 bounded-requires : tie.Need-bounded-requires
@@ -53,7 +53,7 @@ returns c =
     let s1 = c.before in
     let s2 = s1.before.before in
     let s3 = s2.before.before in
-    breaks (afterEdition s3.args.image.now) s2.bounded.ensures s1.r2.given.1
+    breaks (after_edition s3.args.image.now) s2.bounded.ensures s1.r2.given.1
 
 bounded-requires-2 : tie.Need-bounded-requires-2
 bounded-requires-2 c κs = search rules
@@ -70,7 +70,7 @@ returns-2 c =
     let s2 = s1.before.before in
     let s3 = s2.before in
     let s4 = s3.before.before.before.before.before in
-    from-edition s3 (breaks (afterTables s4.args.image.now) s2.bounded2.ensures s1.r4.given.1)
+    from_edition s3 (breaks (after_tables s4.args.image.now) s2.bounded2.ensures s1.r4.given.1)
 
 bounded-requires-3 : tie.Need-bounded-requires-3
 bounded-requires-3 c κs = search rules
@@ -88,7 +88,7 @@ returns-3 c =
     let s3 = s2.before in
     let s4 = s3.before in
     let s5 = s4.before.before.before.before.before.before.before.before in
-    from-tables s3 (breaks (afterConditions s5.args.image.now s4.r3.given.0.0.value) s2.bounded3.ensures
+    from_tables s3 (breaks (after_conditions s5.args.image.now s4.r3.given.0.0.value) s2.bounded3.ensures
     s1.r6.given.1)
 
 bounded-requires-4 : tie.Need-bounded-requires-4
@@ -108,8 +108,8 @@ returns-4 c =
     let s4 = s3.before in
     let s5 = s4.before.before.before.before in
     let s6 = s5.before.before.before.before.before.before.before.before in
-    from-conditions s3
-    (breaks (afterNodes s6.args.image.now s5.r3.given.0.0.value s4.r5.given.0.0.value) s2.bounded4.ensures
+    from_conditions s3
+    (breaks (after_nodes s6.args.image.now s5.r3.given.0.0.value s4.r5.given.0.0.value) s2.bounded4.ensures
     s1.r8.given.1)
 
 bounded-requires-5 : tie.Need-bounded-requires-5
@@ -131,10 +131,10 @@ returns-5 c =
     let s6 = s5.before in
     let s7 = s6.before.before.before.before in
     let s8 = s7.before.before.before.before.before.before.before.before in
-    from-conditions s5
+    from_conditions s5
     (breaks (found s7.r3.given.0.0.value s6.r5.given.0.0.value s3.r7.given.0.0.value) s2.bounded5.ensures
     s1.r10.given.1
-    ∙ goes (afterNodes s8.args.image.now s7.r3.given.0.0.value s6.r5.given.0.0.value) s4.bounded4.ensures
+    ∙ goes (after_nodes s8.args.image.now s7.r3.given.0.0.value s6.r5.given.0.0.value) s4.bounded4.ensures
     s3.r7.given.1)
 
 returns-6 : tie.Need-returns-6
@@ -147,10 +147,10 @@ returns-6 c =
     let s6 = s5.before in
     let s7 = s6.before.before.before.before in
     let s8 = s7.before.before.before.before.before.before.before.before in
-    from-conditions s5
+    from_conditions s5
     (goes (found s7.r3.given.0.0.value s6.r5.given.0.0.value s3.r7.given.0.0.value) s2.bounded5.ensures
     s1.r9.given.1
-    ∙ goes (afterNodes s8.args.image.now s7.r3.given.0.0.value s6.r5.given.0.0.value) s4.bounded4.ensures
+    ∙ goes (after_nodes s8.args.image.now s7.r3.given.0.0.value s6.r5.given.0.0.value) s4.bounded4.ensures
     s3.r7.given.1)
 
 pub head-of-spec : {M : Type 1} → statement M

@@ -3,8 +3,8 @@ use mathlib.Core.Path.{◌≡◌, ap, sym, ◌∙◌}
 use native.Mathlib.Omega.{arith}
 use Rattle.grammar.specs.Sound.{Bytes}
 use Rattle.image.proofs.HeadLaws.{found, few}
-use Rattle.image.proofs.WalkLaws.{promised, putting, too_long, no-head, no-patterns, no-nodes, left_over, all-good}
-use Rattle.format.specs.Image.{headAt}
+use Rattle.image.proofs.WalkLaws.{promised, putting, too_long, no_head, no_patterns, no_nodes, left_over, all_good}
+use Rattle.format.specs.Image.{head_at}
 use Rattle.image.specs.Filled.{filling}
 use Rattle.reader.specs.Meant.{reading}
 use Rattle.image.specs.Meant.{header}
@@ -18,11 +18,11 @@ bytes : (c : tie.After-shared-slice-known) → Bytes c.before.args.image.now
 bytes c i = omega (arith, c.shared-slice-known.given i)
 
 -- The head that was found.
-head-is :
+head_is :
     (c : tie.After-r) → (let h = c.r.given.0.0 in
     found h.tables h.conditions h.nodes h.start h.next
-    ≡ headAt c.before.before.before.before.before.args.image.now)
-head-is c = sym (ap header c.r.given.1) ∙ c.before.before.head_of.ensures
+    ≡ head_at c.before.before.before.before.before.args.image.now)
+head_is c = sym (ap header c.r.given.1) ∙ c.before.before.head_of.ensures
 
 returns : tie.Need-returns
 returns c =
@@ -46,13 +46,13 @@ returns-2 c =
     let s4 = s3.before in
     let a = s4.args in
     promised (bytes s3) s4.requires
-    (no-head a.image.now a.code.now (omega arith) (sym (ap header s1.r2.given.1) ∙ s2.head_of.ensures))
+    (no_head a.image.now a.code.now (omega arith) (sym (ap header s1.r2.given.1) ∙ s2.head_of.ensures))
 
 fill-patterns-requires : tie.Need-fill-patterns-requires
 fill-patterns-requires c κs =
     let s1 = c.before.before in
     let s2 = s1.before.before.before.before.before in
-    omega (arith, few s2.args.image.now (head-is s1))
+    omega (arith, few s2.args.image.now (head_is s1))
 
 enum-known-r-3 : tie.Need-enum-known-r-3
 enum-known-r-3 c = search rules
@@ -70,14 +70,14 @@ returns-3 c =
     let a = s5.args in
     promised (bytes s4) s5.requires
     (putting s2.fill-patterns.ensures.array
-    (no-patterns a.image.now a.code.now (omega arith) (head-is s3)
+    (no_patterns a.image.now a.code.now (omega arith) (head_is s3)
     (sym (ap reading s1.r4.given.1) ∙ s2.fill-patterns.ensures.result)))
 
 fill-nodes-requires : tie.Need-fill-nodes-requires
 fill-nodes-requires c κs =
     let s1 = c.before.before.before.before.before.before.before in
     let s2 = s1.before.before.before.before.before in
-    omega (arith, few s2.args.image.now (head-is s1))
+    omega (arith, few s2.args.image.now (head_is s1))
 
 enum-known-r-5 : tie.Need-enum-known-r-5
 enum-known-r-5 c = search rules
@@ -99,7 +99,7 @@ returns-4 c =
     (putting (s2.fill-nodes.ensures.array
     ∙ ap (λ l. filling (word_at a.image.now h.tables h.conditions h.nodes) 0 0 h.nodes s3.r3.given.0.0.next l)
     s4.fill-patterns.ensures.array)
-    (no-nodes a.image.now a.code.now (omega arith) (head-is s5)
+    (no_nodes a.image.now a.code.now (omega arith) (head_is s5)
     (sym (ap reading s3.r3.given.1) ∙ s4.fill-patterns.ensures.result)
     (sym (ap reading s1.r6.given.1) ∙ s2.fill-nodes.ensures.result)))
 
@@ -117,7 +117,7 @@ returns-5 c =
     (putting (s2.fill-nodes.ensures.array
     ∙ ap (λ l. filling (word_at a.image.now h.tables h.conditions h.nodes) 0 0 h.nodes s3.r3.given.0.0.next l)
     s4.fill-patterns.ensures.array)
-    (left_over a.image.now a.code.now (omega arith) (head-is s5)
+    (left_over a.image.now a.code.now (omega arith) (head_is s5)
     (sym (ap reading s3.r3.given.1) ∙ s4.fill-patterns.ensures.result)
     (sym (ap reading s1.r5.given.1) ∙ s2.fill-nodes.ensures.result) (omega arith)))
 
@@ -135,7 +135,7 @@ returns-6 c =
     (putting (s2.fill-nodes.ensures.array
     ∙ ap (λ l. filling (word_at a.image.now h.tables h.conditions h.nodes) 0 0 h.nodes s3.r3.given.0.0.next l)
     s4.fill-patterns.ensures.array)
-    (all-good a.image.now a.code.now (omega arith) (head-is s5)
+    (all_good a.image.now a.code.now (omega arith) (head_is s5)
     (sym (ap reading s3.r3.given.1) ∙ s4.fill-patterns.ensures.result)
     (sym (ap reading s1.r5.given.1) ∙ s2.fill-nodes.ensures.result) (omega arith)))
 

@@ -1,6 +1,6 @@
 -- `keep` meets its promise. Assumes nothing.
 use borrow.Author.Rules.{rules}
-use Rattle.index.proofs.KeepLaws.{keeps-old, keeps-new}
+use Rattle.index.proofs.KeepLaws.{keeps_old, keeps_new}
 use Rattle.index.proofs.list.keep.Statement.{statement}
 use Rattle.index.proofs.list.keep.Tie as tie
 
@@ -15,7 +15,7 @@ returns c =
     let s = c.before.before.before.before.before in
     let a = s.args in
     let r = c.before.seek in
-    keeps-old a.text.now a.at.now a.count a.p r.result.index s.requires.0 s.requires.2 (r.ensures.found c.if1.true)
+    keeps_old a.text.now a.at.now a.count a.p r.result.index s.requires.0 s.requires.2 (r.ensures.found c.if1.true)
 
 cast-put : tie.Need-overflow-cast-put
 cast-put c = search rules
@@ -35,7 +35,7 @@ returns-2 c =
     let s = e.before.before.before.before.before in
     let a = s.args in
     let r = e.before.seek in
-    keeps-new a.text.now a.at.now a.count a.p r.result.index s.requires.0 c.before.before.put.ensures (r.ensures.missing e.if1.false)
+    keeps_new a.text.now a.at.now a.count a.p r.result.index s.requires.0 c.before.before.put.ensures (r.ensures.missing e.if1.false)
 
 pub keep_spec : {M : Type 1} → statement M
 keep_spec =

@@ -3,7 +3,7 @@ use Prim.Native.Nat.{◌≤◌}
 use mathlib.Core.Path.{◌≡◌}
 use native.Mathlib.Omega.{arith}
 use lib.ListN.{length, length-set}
-use Rattle.index.proofs.ShiftLaws.{Shifted, shifted_none, shifted-more, shifted-length, shifted-put}
+use Rattle.index.proofs.ShiftLaws.{Shifted, shifted_none, shifted_more, shifted_length, shifted_put}
 use Rattle.index.proofs.list.put.Statement.{statement}
 use Rattle.index.proofs.list.put.Tie as tie
 
@@ -19,7 +19,7 @@ loop-holds c = (omega arith, shifted_none c.args.at.now c.args.count (omega arit
 -- The array is as long as it was.
 long : (c : tie.At-loop invariant-loop decreases-loop) → length c.loop.at ≡ length c.before.args.at.now
 long c =
-    let a = c.before.args in shifted-length a.at.now a.count c.before.requires.1 c.loop.j c.loop.invariant.1
+    let a = c.before.args in shifted_length a.at.now a.count c.before.requires.1 c.loop.j c.loop.invariant.1
 
 sub_at : tie.Need-overflow-sub-at invariant-loop decreases-loop
 sub_at c = omega arith
@@ -46,7 +46,7 @@ loop-again : tie.Need-loop-preserved invariant-loop decreases-loop
 loop-again c =
     let a = c.before.before.before.args in
     let l = c.before.before.loop in
-    (omega arith, shifted-more a.at.now a.count (omega arith) l.j l.invariant.1 (omega arith))
+    (omega arith, shifted_more a.at.now a.count (omega arith) l.j l.invariant.1 (omega arith))
 
 mul-at-3 : tie.Need-overflow-mul-at-3 invariant-loop decreases-loop
 mul-at-3 c = omega arith
@@ -61,7 +61,7 @@ returns : tie.Need-returns invariant-loop decreases-loop
 returns c =
     let a = c.before.before.args in
     let l = c.before.loop in
-    shifted-put a.at.now a.count (omega arith) l.j l.invariant.1 a.index a.p (omega arith)
+    shifted_put a.at.now a.count (omega arith) l.j l.invariant.1 a.index a.p (omega arith)
 
 pub put_spec : {M : Type 1} → statement M
 put_spec =

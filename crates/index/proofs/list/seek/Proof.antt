@@ -10,9 +10,9 @@ use Rattle.notation.specs.At.{name_at}
 use Rattle.notation.specs.LexicalText.{no_way}
 use Rattle.notation.specs.Compile.{Order, order}
 use Rattle.index.specs.Listed.{names_at, order_of}
-use Rattle.index.specs.OrderLaws.{is-lower, is-equal, is-higher}
-use Rattle.index.specs.PlaceLaws.{names-length, names-at}
-use Rattle.index.proofs.SeekLaws.{Left, left-all, left-none, left_below, left-above, left_here}
+use Rattle.index.specs.OrderLaws.{is_lower, is_equal, is_higher}
+use Rattle.index.specs.PlaceLaws.{names_length, names_at_lem}
+use Rattle.index.proofs.SeekLaws.{Left, left_all, left_none, left_below, left_above, left_here}
 use Rattle.index.proofs.list.seek.Statement.{statement}
 use Rattle.index.proofs.list.seek.Tie as tie
 
@@ -26,7 +26,7 @@ loop-holds : tie.Need-loop-init invariant-loop decreases-loop
 loop-holds c =
     let a = c.before.before.args in
     let ns = names_at a.text.now a.at.now a.count in
-    (omega arith, left-all (name_at a.text.now a.p) ns (sym (names-length a.text.now a.at.now a.count c.before.before.requires.0)))
+    (omega arith, left_all (name_at a.text.now a.p) ns (sym (names_length a.text.now a.at.now a.count c.before.before.requires.0)))
 
 sub-index : tie.Need-overflow-sub-index invariant-loop decreases-loop
 sub-index c = omega arith
@@ -71,7 +71,7 @@ module _ (c : tie.After-order-at invariant-loop decreases-loop) where
 
   compared : {o : Order} → order_of c.order-at.result ≡ o → order name (get_or names index []) ≡ o
   compared e =
-      ap (order name) (names-at text places start.args.count start.pre.0 index (omega arith) ∙ ap (name_at text) (sym c.before.wide.ensures))
+      ap (order name) (names_at_lem text places start.args.count start.pre.0 index (omega arith) ∙ ap (name_at text) (sym c.before.wide.ensures))
       ∙ sym c.order-at.ensures.1 ∙ e
 
 returns : tie.Need-returns invariant-loop decreases-loop
@@ -82,7 +82,7 @@ returns c =
       within = omega arith;
       inside = λ _. omega arith;
       found = λ _.
-          left_here (name s) (names s) l.inv.1 (start s).requires.1 (index s) (omega arith) (omega arith) (compared s (is-equal (omega arith)));
+          left_here (name s) (names s) l.inv.1 (start s).requires.1 (index s) (omega arith) (omega arith) (compared s (is_equal (omega arith)));
       missing = λ e. no_way (cc);
     }
 
@@ -93,7 +93,7 @@ loop-again : tie.Need-loop-preserved invariant-loop decreases-loop
 loop-again c =
     let s = c.before.before in
     let l = (here s).loop in
-    (omega arith, left_below (name s) (names s) l.inv.1 (start s).requires.1 (index s) (omega arith) (omega arith) (compared s (is-lower (omega arith))))
+    (omega arith, left_below (name s) (names s) l.inv.1 (start s).requires.1 (index s) (omega arith) (omega arith) (compared s (is_lower (omega arith))))
 
 add_low : tie.Need-overflow-add-low invariant-loop decreases-loop
 add_low c = omega arith
@@ -105,7 +105,7 @@ loop-again-2 : tie.Need-loop-preserved-2 invariant-loop decreases-loop
 loop-again-2 c =
     let s = c.before.before in
     let l = (here s).loop in
-    (omega arith, left-above (name s) (names s) l.inv.1 (start s).requires.1 (index s) (omega arith) (omega arith) (compared s (is-higher (omega arith) (λ z. omega arith) (λ z. omega arith))))
+    (omega arith, left_above (name s) (names s) l.inv.1 (start s).requires.1 (index s) (omega arith) (omega arith) (compared s (is_higher (omega arith) (λ z. omega arith) (λ z. omega arith))))
 
 returns-2 : tie.Need-returns-2 invariant-loop decreases-loop
 returns-2 c =
@@ -115,7 +115,7 @@ returns-2 c =
       within = omega arith;
       inside = λ e. no_way (cc);
       found = λ e. no_way (cc);
-      missing = λ _. left-none (name_at a.text.now a.p) (names_at a.text.now a.at.now a.count) (omega arith) l.invariant.1;
+      missing = λ _. left_none (name_at a.text.now a.p) (names_at a.text.now a.at.now a.count) (omega arith) l.invariant.1;
     }
 
 pub seek-spec : {M : Type 1} → statement M

@@ -7,7 +7,7 @@ use lib.ListN.{length}
 use Rattle.notation.specs.At.{name_at}
 use Rattle.notation.specs.Compile.{order}
 use Rattle.index.specs.Listed.{order_of}
-use Rattle.index.proofs.NameLaws.{first-lower, first-higher, both_end, both-on, name-inside}
+use Rattle.index.proofs.NameLaws.{first_lower, first_higher, both_end, both_on, name_inside}
 use Rattle.index.proofs.order.order_at.Statement.{statement}
 use Rattle.index.proofs.order.order_at.Tie as tie
 
@@ -31,14 +31,14 @@ unfolding order_of
 returns c =
     let s = c.before.before.before in
     let t = s.before.before.args.text.now in
-    (omega arith, sym (first-lower (name_at t s.loop.i) (name_at t s.loop.j) (omega arith)) ∙ s.loop.invariant)
+    (omega arith, sym (first_lower (name_at t s.loop.i) (name_at t s.loop.j) (omega arith)) ∙ s.loop.invariant)
 
 returns-2 : tie.Need-returns-2 invariant-loop decreases-loop
 unfolding order_of
 returns-2 c =
     let s = c.before.before.before.before in
     let t = s.before.before.args.text.now in
-    (omega arith, sym (first-higher (name_at t s.loop.i) (name_at t s.loop.j) (omega arith)) ∙ s.loop.invariant)
+    (omega arith, sym (first_higher (name_at t s.loop.i) (name_at t s.loop.j) (omega arith)) ∙ s.loop.invariant)
 
 returns-3 : tie.Need-returns-3 invariant-loop decreases-loop
 unfolding order_of
@@ -52,25 +52,25 @@ module _ (c : tie.Else3 invariant-loop decreases-loop) where
   abbrev s : tie.At-loop invariant-loop decreases-loop
   s = c.before.before.before.before.before
 
-  i-inside : s.loop.i < length s.before.before.args.text.now
-  i-inside = name-inside s.before.before.args.text.now s.loop.i (omega arith)
+  i_inside : s.loop.i < length s.before.before.args.text.now
+  i_inside = name_inside s.before.before.args.text.now s.loop.i (omega arith)
 
-  j-inside : s.loop.j < length s.before.before.args.text.now
-  j-inside = name-inside s.before.before.args.text.now s.loop.j (omega arith)
+  j_inside : s.loop.j < length s.before.before.args.text.now
+  j_inside = name_inside s.before.before.args.text.now s.loop.j (omega arith)
 
 add-i : tie.Need-overflow-add-i invariant-loop decreases-loop
-add-i c = omega (arith, i-inside c)
+add-i c = omega (arith, i_inside c)
 
 add-j : tie.Need-overflow-add-j invariant-loop decreases-loop
-add-j c = omega (arith, j-inside c)
+add-j c = omega (arith, j_inside c)
 
 loop-less : tie.Need-loop-smaller invariant-loop decreases-loop
-loop-less c = omega (arith, i-inside c)
+loop-less c = omega (arith, i_inside c)
 
 loop-again : tie.Need-loop-preserved invariant-loop decreases-loop
 loop-again c =
     let l = (s c).loop in
-    both-on (s c).before.before.args.text.now l.i l.j (omega arith) (omega arith) ∙ l.inv
+    both_on (s c).before.before.args.text.now l.i l.j (omega arith) (omega arith) ∙ l.inv
 
 pub order-at-spec : {M : Type 1} → statement M
 order-at-spec =

@@ -5,10 +5,10 @@ use mathlib.Core.Bool.{true}
 use native.Mathlib.Omega.{arith}
 use lib.ListN.{drop, length-drop}
 use Rattle.meaning.specs.Outcome.{text, begins}
-use Rattle.meaning.specs.Forward.{begins-fits}
+use Rattle.meaning.specs.Forward.{begins_fits}
 use Rattle.parts.specs.Slots.{symbol_at}
 use Rattle.kinds.specs.Turned.{given_of}
-use Rattle.kinds.specs.TurnedLaws.{text-length}
+use Rattle.kinds.specs.TurnedLaws.{text_length}
 use borrow.Author.Rules.{rules}
 use Rattle.kinds.proofs.inside.again.Statement.{statement}
 use Rattle.kinds.proofs.inside.again.Tie as tie
@@ -61,9 +61,9 @@ given-requires c κs =
       arith,
       s.requires.0,
       s.requires.1,
-      text-length a.input.now y s.requires.4,
+      text_length a.input.now y s.requires.4,
       length-drop a.at a.input.now,
-      begins-fits (text a.input.now y) (drop a.at a.input.now) (sym c.begins-with.ensures ∙ e),
+      begins_fits (text a.input.now y) (drop a.at a.input.now) (sym c.begins-with.ensures ∙ e),
     ) in
     (fits, s.requires.5, s.requires.6, s.requires.7)
 
@@ -74,7 +74,7 @@ returns c =
     let y = symbol_at a.slots.now a.number in
     c.given.ensures ∙ ap (λ b. given_of b (a.at + (y.to - y.from)) a.held a.steps a.depth) c.before.begins-with.ensures
     ∙ ap (λ n. given_of (begins (text a.input.now y) (drop a.at a.input.now)) (a.at + n) a.held a.steps a.depth)
-    (sym (text-length a.input.now y s.requires.4))
+    (sym (text_length a.input.now y s.requires.4))
 
 pub again_spec : {M : Type 1} → statement M
 again_spec =

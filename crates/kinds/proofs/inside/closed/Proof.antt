@@ -2,7 +2,7 @@
 use mathlib.Core.Path.{◌≡◌, refl, ap, sym, ◌∙◌, subst}
 use native.Mathlib.Omega.{arith}
 use Rattle.kinds.specs.Turned.{Bounds, Lent}
-use Rattle.kinds.specs.TurnedLaws.{Stops, closed-stops, closed-slides}
+use Rattle.kinds.specs.TurnedLaws.{Stops, closed_stops, closed_slides}
 use Rattle.kinds.proofs.OutcomeLaws.{stops}
 use borrow.Author.Rules.{rules}
 use Rattle.kinds.proofs.inside.closed.Statement.{statement}
@@ -18,7 +18,7 @@ returns : tie.Need-returns
 returns c =
     let o = c.before.opened in
     let a = c.before.before.before.args in
-    closed-stops a.table a.held a.slots.now (subst Stops o.ensures (stops o.result c.match.keys2))
+    closed_stops a.table a.held a.slots.now (subst Stops o.ensures (stops o.result c.match.keys2))
 
 close-requires : tie.Need-close-requires
 close-requires c κs =
@@ -41,7 +41,7 @@ returns-2 : tie.Need-returns-2
 returns-2 c =
     let a = c.before.before.before.before.before.before.before.before.before.before.args in
     let i = c.before.before.before.before.before.before.inner.given in
-    closed-slides a.table a.held a.slots.now c.before.before.before.close.new.0 i.0.0 i.0.1.0
+    closed_slides a.table a.held a.slots.now c.before.before.before.close.new.0 i.0.0 i.0.1.0
     c.before.before.before.close.result i.0.1.1.0 i.0.1.1.1.0
     (sym c.before.before.before.before.before.before.before.before.opened.ensures ∙ i.1) c.passed.ensures
     c.before.before.before.close.ensures

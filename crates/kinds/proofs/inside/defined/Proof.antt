@@ -2,7 +2,7 @@
 use mathlib.Core.Path.{◌≡◌, refl, ap, sym, ◌∙◌, subst}
 use native.Mathlib.Omega.{arith}
 use Rattle.kinds.specs.Turned.{Bounds}
-use Rattle.kinds.specs.TurnedLaws.{Stops, defined-stops, defined-stores, defined-full}
+use Rattle.kinds.specs.TurnedLaws.{Stops, defined_stops, defined_stores, defined_full}
 use Rattle.kinds.proofs.OutcomeLaws.{stops}
 use borrow.Author.Rules.{rules}
 use Rattle.kinds.proofs.inside.defined.Statement.{statement}
@@ -18,7 +18,7 @@ returns : tie.Need-returns
 returns c =
     let o = c.before.opened in
     let a = c.before.before.before.args in
-    defined-stops a.room a.table a.at a.held a.slots.now (subst Stops o.ensures (stops o.result c.match.keys2))
+    defined_stops a.room a.table a.at a.held a.slots.now (subst Stops o.ensures (stops o.result c.match.keys2))
 
 store-requires : tie.Need-store-requires
 store-requires c κs = search rules
@@ -40,7 +40,7 @@ returns-2 : tie.Need-returns-2
 returns-2 c =
     let a = c.before.before.before.before.before.before.before.before.before.before.before.args in
     let i = c.before.before.before.before.before.before.before.inner.given in
-    defined-stores a.room a.table a.at a.held a.slots.now i.0.0 i.0.1.0 i.0.1.1.0 i.0.1.1.1.0
+    defined_stores a.room a.table a.at a.held a.slots.now i.0.0 i.0.1.0 i.0.1.1.0 i.0.1.1.1.0
     (sym c.before.before.before.before.before.before.before.before.before.opened.ensures ∙ i.1)
     c.before.before.before.before.before.if1.true c.passed.ensures c.before.before.before.store.ensures
 
@@ -54,7 +54,7 @@ returns-3 : tie.Need-returns-3
 returns-3 c =
     let a = c.before.before.before.before.before.before.before.args in
     let i = c.before.before.before.inner.given in
-    defined-full a.room a.table a.at a.held a.slots.now i.0.0 i.0.1.0 i.0.1.1.0 i.0.1.1.1.0
+    defined_full a.room a.table a.at a.held a.slots.now i.0.0 i.0.1.0 i.0.1.1.0 i.0.1.1.1.0
     (sym c.before.before.before.before.before.opened.ensures ∙ i.1) c.before.if1.false c.refused.ensures refl
 
 pub defined-spec : {M : Type 1} → statement M

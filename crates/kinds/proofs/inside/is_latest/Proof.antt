@@ -3,8 +3,8 @@ use mathlib.Core.Path.{◌≡◌, refl, ap, sym, ◌∙◌, subst}
 use native.Mathlib.Omega.{arith}
 use Rattle.meaning.specs.Outcome.{same, part, text}
 use Rattle.parts.specs.Slots.{symbol_at}
-use Rattle.kinds.specs.Turned.{Bounds, given_of, comparedOf}
-use Rattle.kinds.specs.TurnedLaws.{Stops, compared-stops}
+use Rattle.kinds.specs.Turned.{Bounds, given_of, compared_of}
+use Rattle.kinds.specs.TurnedLaws.{Stops, compared_stops}
 use lib.ListN.{length}
 use Rattle.kinds.proofs.OutcomeLaws.{stops}
 use borrow.Author.Rules.{rules}
@@ -21,7 +21,7 @@ returns : tie.Need-returns
 returns c =
     let o = c.before.opened in
     let a = c.before.before.before.before.args in
-    compared-stops (λ end. same (part a.input.now a.at end) (text a.input.now (symbol_at a.slots.now a.number))) a.held (subst Stops o.ensures (stops o.result c.match.keys2))
+    compared_stops (λ end. same (part a.input.now a.at end) (text a.input.now (symbol_at a.slots.now a.number))) a.held (subst Stops o.ensures (stops o.result c.match.keys2))
 
 cast-is-symbol : tie.Need-overflow-cast-is-symbol
 cast-is-symbol c = search rules
@@ -45,7 +45,7 @@ returns-2 c =
     let a = c.before.before.before.before.before.before.before.before.args in
     let i = c.before.before.before.inner.given in
     c.given.ensures ∙ ap (λ b. given_of b i.0.0 a.held i.0.1.1.0 i.0.1.1.1.0) c.before.is-symbol.ensures
-    ∙ ap (comparedOf (λ end. same (part a.input.now a.at end) (text a.input.now (symbol_at a.slots.now a.number))) a.held) (sym i.1 ∙ c.before.before.before.before.before.opened.ensures)
+    ∙ ap (compared_of (λ end. same (part a.input.now a.at end) (text a.input.now (symbol_at a.slots.now a.number))) a.held) (sym i.1 ∙ c.before.before.before.before.before.opened.ensures)
 
 pub is-latest-spec : {M : Type 1} → statement M
 is-latest-spec =

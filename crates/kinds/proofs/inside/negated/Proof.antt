@@ -2,8 +2,8 @@
 use mathlib.Core.Path.{◌≡◌, refl, ap, sym, ◌∙◌, subst}
 use native.Mathlib.Omega.{arith}
 use mathlib.Core.Logic.{inr}
-use Rattle.kinds.specs.Turned.{Bounds, negatedOf}
-use Rattle.kinds.specs.TurnedLaws.{Stops, Stays, negated-stops}
+use Rattle.kinds.specs.Turned.{Bounds, negated_of}
+use Rattle.kinds.specs.TurnedLaws.{Stops, Stays, negated_stops}
 use Rattle.kinds.proofs.OutcomeLaws.{stops, stays}
 use borrow.Author.Rules.{rules}
 use Rattle.kinds.proofs.inside.negated.Statement.{statement}
@@ -35,18 +35,18 @@ enum_told c = search rules
 returns : tie.Need-returns
 returns c =
     let a = c.before.before.before.before.before.args in
-    c.failed.ensures ∙ ap (negatedOf a.at a.held) (sym c.before.before.inner.given.1 ∙ c.before.before.before.before.opened.ensures)
+    c.failed.ensures ∙ ap (negated_of a.at a.held) (sym c.before.before.inner.given.1 ∙ c.before.before.before.before.opened.ensures)
 
 returns-2 : tie.Need-returns-2
 returns-2 c =
     let a = c.before.before.before.before.before.args in
-    c.passed.ensures ∙ ap (negatedOf a.at a.held) (sym c.before.before.inner2.given.1 ∙ c.before.before.before.before.opened.ensures)
+    c.passed.ensures ∙ ap (negated_of a.at a.held) (sym c.before.before.inner2.given.1 ∙ c.before.before.before.before.opened.ensures)
 
 returns-3 : tie.Need-returns-3
 returns-3 c =
     let o = c.before.before.opened in
     let a = c.before.before.before.args in
-    negated-stops a.at a.held (subst Stops o.ensures (stops o.result (inr c.before.match.keys3)))
+    negated_stops a.at a.held (subst Stops o.ensures (stops o.result (inr c.before.match.keys3)))
     (subst Stays o.ensures (stays o.result (inr c.before.match.keys3)))
 
 pub negated-spec : {M : Type 1} → statement M

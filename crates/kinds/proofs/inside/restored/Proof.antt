@@ -1,8 +1,8 @@
 -- `restored` meets its promise. Assumes nothing.
 use mathlib.Core.Path.{◌≡◌, refl, ap, sym, ◌∙◌, subst}
 use native.Mathlib.Omega.{arith}
-use Rattle.kinds.specs.Turned.{Bounds, restoredOf}
-use Rattle.kinds.specs.TurnedLaws.{Stops, restored-stops}
+use Rattle.kinds.specs.Turned.{Bounds, restored_of}
+use Rattle.kinds.specs.TurnedLaws.{Stops, restored_stops}
 use Rattle.kinds.proofs.OutcomeLaws.{stops}
 use borrow.Author.Rules.{rules}
 use Rattle.kinds.proofs.inside.restored.Statement.{statement}
@@ -17,7 +17,7 @@ enum-known-inner c = search rules
 returns : tie.Need-returns
 returns c =
     let o = c.before.opened in
-    restored-stops c.before.before.args.held (subst Stops o.ensures (stops o.result c.match.keys2))
+    restored_stops c.before.before.args.held (subst Stops o.ensures (stops o.result c.match.keys2))
 
 passed-requires : tie.Need-passed-requires
 passed-requires c κs =
@@ -28,7 +28,7 @@ passed-requires c κs =
 returns-2 : tie.Need-returns-2
 returns-2 c =
     let a = c.before.before.before.before.before.args in
-    c.passed.ensures ∙ ap (restoredOf a.held) (sym c.before.before.inner.given.1 ∙ c.before.before.before.before.opened.ensures)
+    c.passed.ensures ∙ ap (restored_of a.held) (sym c.before.before.inner.given.1 ∙ c.before.before.before.before.opened.ensures)
 
 pub restored-spec : {M : Type 1} → statement M
 restored-spec =

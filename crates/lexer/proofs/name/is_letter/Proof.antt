@@ -1,6 +1,6 @@
 -- `is_letter` meets its promise. Assumes nothing.
 use borrow.Author.Rules.{rules}
-use Rattle.lexer.proofs.PickLaws.{pick-itself}
+use Rattle.lexer.proofs.PickLaws.{pick_itself}
 use Rattle.lexer.proofs.name.is_letter.Statement.{statement}
 use Rattle.lexer.proofs.name.is_letter.Tie as tie
 
@@ -17,7 +17,7 @@ returns-2 : tie.Need-returns-2
 returns-2 c = cc
 
 returns-3 : tie.Need-returns-3
-returns-3 c = cc (pick-itself _)
+returns-3 c = cc (pick_itself _)
 
 pub is-letter-spec : {M : Type 1} → statement M
 is-letter-spec =

@@ -2,8 +2,8 @@
 use mathlib.Core.Path.{sym, ◌∙◌}
 use borrow.Author.Rules.{rules}
 use borrow.Author.Tests.{not-true, not-false}
-use Rattle.lexer.proofs.GapLaws.{gap-past, gap-open, past-onward}
-use Rattle.lexer.proofs.NameLaws.{open-nothing, end-nothing, other-nothing, finds}
+use Rattle.lexer.proofs.GapLaws.{gap_past, gap_open, past_onward}
+use Rattle.lexer.proofs.NameLaws.{open_nothing, end_nothing, other_nothing, finds}
 use Rattle.lexer.proofs.name.name_from.Statement.{statement}
 use Rattle.lexer.proofs.name.name_from.Tie as tie
 
@@ -19,7 +19,7 @@ enum-known-i c = search rules
 returns : tie.Need-returns
 returns c =
     let s = c.before.before in
-    end-nothing _ (gap-past s.before.before.gap_from.ensures s.i.given.1) c.if1.true
+    end_nothing _ (gap_past s.before.before.gap_from.ensures s.i.given.1) c.if1.true
 
 shared-slice-read-is-letter : tie.Need-shared-slice-read-is-letter
 shared-slice-read-is-letter c = search rules
@@ -30,7 +30,7 @@ is-letter-requires c κs = search rules
 returns-2 : tie.Need-returns-2
 returns-2 c =
     let l = c.before.before.before in let s = l.before.before in
-    other-nothing _ (gap-past s.before.before.gap_from.ensures s.i.given.1) l.if1.false
+    other_nothing _ (gap_past s.before.before.gap_from.ensures s.i.given.1) l.if1.false
     (sym c.before.is-letter.ensures ∙ not-true _ c.if2.true)
 
 add-name-end : tie.Need-overflow-add-name-end
@@ -40,13 +40,13 @@ name-end-requires : tie.Need-name-end-requires
 name-end-requires c κs = search rules
 
 returns-3 : tie.Need-returns-3
-returns-3 c = open-nothing _ (gap-open c.before.before.gap_from.ensures c.enum_told.given.1)
+returns-3 c = open_nothing _ (gap_open c.before.before.gap_from.ensures c.enum_told.given.1)
 
 returns-4 : tie.Need-returns-4
 returns-4 c =
     let l = c.before.before.before.before in let s = l.before.before in let g = s.before.before.gap_from.ensures in
-    finds _ (gap-past g s.i.given.1) l.if1.false (sym c.before.before.is-letter.ensures ∙ not-false _ c.before.if2.false)
-    (past-onward g s.i.given.1) c.name-end.ensures
+    finds _ (gap_past g s.i.given.1) l.if1.false (sym c.before.before.is-letter.ensures ∙ not-false _ c.before.if2.false)
+    (past_onward g s.i.given.1) c.name-end.ensures
 
 pub name-from-spec : {M : Type 1} → statement M
 name-from-spec =

@@ -7,8 +7,8 @@ use Rattle.notation.specs.At.{name_at}
 use Rattle.lexer.specs.declared.operator.Truth.TheVariants.{Is}
 use Rattle.lexer.specs.Names.{Stands}
 use Rattle.lexer.specs.Operators.{truthed, Sees}
-use Rattle.lexer.proofs.NameLaws.{finds-at, finds-none}
-use Rattle.lexer.proofs.OperatorLaws.{unknown-begins, no-truth-begins, no-name-begins, no-close-begins, opener-begins, query-begins}
+use Rattle.lexer.proofs.NameLaws.{finds_at, finds_none}
+use Rattle.lexer.proofs.OperatorLaws.{unknown_begins, no_truth_begins, no_name_begins, no_close_begins, opener_begins, query_begins}
 use Rattle.lexer.proofs.operator.behind_word.Statement.{statement}
 use Rattle.lexer.proofs.operator.behind_word.Tie as tie
 
@@ -22,13 +22,13 @@ found : (c : tie.After-known-told2)
     → (let s = c.before.before.before.before in let t = s.before.before.before.before.before.before.args.text.now in
     let a = s.before.truth.given.0.1.0 in let n = c.before.name.given.0 in
     (name (drop a t) ≡ piece (name_at t n.0) (drop n.1.0 t)) × Stands t a n.0 n.1.0)
-found c = finds-at c.before.before.before.name-from.ensures c.before.name.given.1
+found c = finds_at c.before.before.before.name-from.ensures c.before.name.given.1
 
 no-token-requires : tie.Need-no-token-requires
 no-token-requires c κs = search rules
 
 returns : tie.Need-returns
-returns c = unknown-begins _ c.before.before.before.requires c.no-token.ensures c.before.if1.true
+returns c = unknown_begins _ c.before.before.before.requires c.no_token_lem.ensures c.before.if1.true
 
 truth-of-requires : tie.Need-truth-of-requires
 truth-of-requires c κs = search rules
@@ -61,7 +61,7 @@ returns-2 : tie.Need-returns-2
 returns-2 c =
     let l = c.before in let f = found l.before in
     let s = l.before.before.before.before.before in let e = seen s in let i = s.before.before.before.before in
-    opener-begins _ i.before.before.requires i.if1.false _ e.0 f.0 e.1 f.1 c.made.ensures l.if2.true
+    opener_begins _ i.before.before.requires i.if1.false _ e.0 f.0 e.1 f.1 c.made.ensures l.if2.true
 
 close-from-requires : tie.Need-close-from-requires
 close-from-requires c κs = (found c.before).1.inside
@@ -81,27 +81,27 @@ made-requires-2 c κs = search rules
 returns-3 : tie.Need-returns-3
 returns-3 c =
     let i = c.before.before.before.before in
-    no-truth-begins _ i.before.before.requires i.if1.false c.no-token2.ensures
+    no_truth_begins _ i.before.before.requires i.if1.false c.no-token2.ensures
     (rw c.before.enum_told.given.1 at c.before.before.before.truth-of.ensures)
 
 returns-4 : tie.Need-returns-4
 returns-4 c =
     let n = c.before.before.before in let s = n.before in let i = s.before.before.before.before in
-    no-name-begins _ i.before.before.requires i.if1.false s.before.truth.given.0.1.0 (seen s).0 c.no-token3.ensures
-    (finds-none n.name-from.ensures c.before.enum-told2.given.1)
+    no_name_begins _ i.before.before.requires i.if1.false s.before.truth.given.0.1.0 (seen s).0 c.no-token3.ensures
+    (finds_none n.name-from.ensures c.before.enum-told2.given.1)
 
 returns-5 : tie.Need-returns-5
 returns-5 c =
     let n = c.before.before.before in let l = n.before in let f = found l.before in
     let s = l.before.before.before.before.before in let e = seen s in let i = s.before.before.before.before in
-    no-close-begins _ i.before.before.requires i.if1.false _ e.0 f.0 e.1 f.1 c.no-token4.ensures l.if2.false
+    no_close_begins _ i.before.before.requires i.if1.false _ e.0 f.0 e.1 f.1 c.no-token4.ensures l.if2.false
     (rw c.before.enum-told3.given.1 at n.close-from.ensures)
 
 returns-6 : tie.Need-returns-6
 returns-6 c =
     let x = c.before.before in let n = x.before.before in let l = n.before in let f = found l.before in
     let s = l.before.before.before.before.before in let e = seen s in let i = s.before.before.before.before in
-    query-begins _ i.before.before.requires i.if1.false _ e.0 f.0 e.1 f.1 c.made2.ensures l.if2.false
+    query_begins _ i.before.before.requires i.if1.false _ e.0 f.0 e.1 f.1 c.made2.ensures l.if2.false
     (rw x.close.given.1 at n.close-from.ensures)
 
 pub behind-word-spec : {M : Type 1} → statement M

@@ -1,7 +1,7 @@
 -- `close_from` meets its promise: by the gap, and the byte behind it. Assumes nothing.
 use borrow.Author.Rules.{rules}
-use Rattle.lexer.proofs.GapLaws.{gap-past, gap-open, past-onward}
-use Rattle.lexer.proofs.SignLaws.{close_open, close-last, close-here, close_other}
+use Rattle.lexer.proofs.GapLaws.{gap_past, gap_open, past_onward}
+use Rattle.lexer.proofs.SignLaws.{close_open, close_last, close_here, close_other}
 use Rattle.lexer.proofs.operator.close_from.Statement.{statement}
 use Rattle.lexer.proofs.operator.close_from.Tie as tie
 
@@ -17,7 +17,7 @@ enum-known-i c = search rules
 returns : tie.Need-returns
 returns c =
     let s = c.before.before in let a = s.before.before.before.before.args in
-    close-last a.text.now a.at s.i.given.0.0 (gap-past s.before.before.gap_from.ensures s.i.given.1) c.if1.true
+    close_last a.text.now a.at s.i.given.0.0 (gap_past s.before.before.gap_from.ensures s.i.given.1) c.if1.true
 
 shared-slice-read-if2 : tie.Need-shared-slice-read-if2
 shared-slice-read-if2 c = search rules
@@ -28,17 +28,17 @@ add-t10 c = search rules
 returns-2 : tie.Need-returns-2
 returns-2 c =
     let l = c.before.before in let s = l.before.before in let g = s.before.before.gap_from.ensures in let e = s.i.given.1 in
-    close-here _ _ _ (gap-past g e) l.if1.false c.if2.true (past-onward g e)
+    close_here _ _ _ (gap_past g e) l.if1.false c.if2.true (past_onward g e)
 
 returns-3 : tie.Need-returns-3
 returns-3 c =
     let a = c.before.before.before.before.args in
-    close_open a.text.now a.at (gap-open c.before.before.gap_from.ensures c.enum_told.given.1)
+    close_open a.text.now a.at (gap_open c.before.before.gap_from.ensures c.enum_told.given.1)
 
 returns-4 : tie.Need-returns-4
 returns-4 c =
     let l = c.before.before in let s = l.before.before in let a = s.before.before.before.before.args in
-    close_other a.text.now a.at s.i.given.0.0 (gap-past s.before.before.gap_from.ensures s.i.given.1) l.if1.false c.if2.false
+    close_other a.text.now a.at s.i.given.0.0 (gap_past s.before.before.gap_from.ensures s.i.given.1) l.if1.false c.if2.false
 
 pub close-from-spec : {M : Type 1} → statement M
 close-from-spec =

@@ -1,8 +1,8 @@
 -- `operator` meets its promise: by the name behind the `<`. Assumes nothing.
 use native.Mathlib.Omega.{arith}
 use borrow.Author.Rules.{rules}
-use Rattle.lexer.proofs.NameLaws.{finds-at, finds-none}
-use Rattle.lexer.proofs.OperatorLaws.{no-word-begins, operator-at}
+use Rattle.lexer.proofs.NameLaws.{finds_at, finds_none}
+use Rattle.lexer.proofs.OperatorLaws.{no_word_begins, operator_at}
 use Rattle.lexer.proofs.operator.operator.Statement.{statement}
 use Rattle.lexer.proofs.operator.operator.Tie as tie
 
@@ -23,17 +23,17 @@ enum-known-word c = search rules
 
 word-at-requires : tie.Need-word-at-requires
 word-at-requires c κs =
-    let w = c.before in let n = (finds-at w.before.before.name-from.ensures w.word.given.1).1 in omega arith
+    let w = c.before in let n = (finds_at w.before.before.name-from.ensures w.word.given.1).1 in omega arith
 
 behind-word-requires : tie.Need-behind-word-requires
 behind-word-requires c κs =
-    let w = c.before.before in let n = w.before.before in let f = finds-at n.name-from.ensures w.word.given.1 in
-    operator-at _ _ (omega arith) n.before.before.requires.1 w.word.given.0.0 w.word.given.0.1.0 f.0 f.1 c.word-at.ensures
+    let w = c.before.before in let n = w.before.before in let f = finds_at n.name-from.ensures w.word.given.1 in
+    operator_at _ _ (omega arith) n.before.before.requires.1 w.word.given.0.0 w.word.given.0.1.0 f.0 f.1 c.word_at_lem.ensures
 
 returns : tie.Need-returns
 returns c =
     let n = c.before.before.before in
-    no-word-begins _ _ (omega arith) n.before.before.requires.1 c.no-token.ensures (finds-none n.name-from.ensures c.before.enum_told.given.1)
+    no_word_begins _ _ (omega arith) n.before.before.requires.1 c.no_token_lem.ensures (finds_none n.name-from.ensures c.before.enum_told.given.1)
 
 returns-2 : tie.Need-returns-2
 returns-2 c = search rules

@@ -1,8 +1,8 @@
 -- `truth_from` meets its promise: by the gap, and the byte behind it. Assumes nothing.
 use native.Mathlib.Omega.{arith}
 use borrow.Author.Rules.{rules}
-use Rattle.lexer.proofs.GapLaws.{gap-past, gap-open, past-onward, past-inside}
-use Rattle.lexer.proofs.SignLaws.{truth-open, truth-last, truth-not, truth-plain}
+use Rattle.lexer.proofs.GapLaws.{gap_past, gap_open, past_onward, past_inside}
+use Rattle.lexer.proofs.SignLaws.{truth_open, truth_last, truth_not, truth_plain}
 use Rattle.lexer.proofs.operator.truth_from.Statement.{statement}
 use Rattle.lexer.proofs.operator.truth_from.Tie as tie
 
@@ -18,7 +18,7 @@ enum-known-i c = search rules
 returns : tie.Need-returns
 returns c =
     let s = c.before.before in let g = s.before.before.gap_from.ensures in let e = s.i.given.1 in
-    truth-last _ _ _ (gap-past g e) c.if1.true (past-onward g e) (past-inside g e (omega arith))
+    truth_last _ _ _ (gap_past g e) c.if1.true (past_onward g e) (past_inside g e (omega arith))
 
 shared-slice-read-if2 : tie.Need-shared-slice-read-if2
 shared-slice-read-if2 c = search rules
@@ -29,17 +29,17 @@ add-t10 c = search rules
 returns-2 : tie.Need-returns-2
 returns-2 c =
     let l = c.before.before in let s = l.before.before in let g = s.before.before.gap_from.ensures in let e = s.i.given.1 in
-    truth-not _ _ _ (gap-past g e) l.if1.false c.if2.true (past-onward g e)
+    truth_not _ _ _ (gap_past g e) l.if1.false c.if2.true (past_onward g e)
 
 returns-3 : tie.Need-returns-3
 returns-3 c =
     let a = c.before.before.before.before.args in
-    truth-open a.text.now a.at (gap-open c.before.before.gap_from.ensures c.enum_told.given.1)
+    truth_open a.text.now a.at (gap_open c.before.before.gap_from.ensures c.enum_told.given.1)
 
 returns-4 : tie.Need-returns-4
 returns-4 c =
     let l = c.before.before in let s = l.before.before in let g = s.before.before.gap_from.ensures in let e = s.i.given.1 in
-    truth-plain _ _ _ (gap-past g e) l.if1.false c.if2.false (past-onward g e)
+    truth_plain _ _ _ (gap_past g e) l.if1.false c.if2.false (past_onward g e)
 
 pub truth-from-spec : {M : Type 1} → statement M
 truth-from-spec =

@@ -19,7 +19,7 @@ simple-requires c κs = search rules
 
 returns : tie.Need-returns
 unfolding ended
-returns c = c.no-token.ensures ∙ ap (ended _ _) (sym c.before.enum_told.given.1)
+returns c = c.no_token_lem.ensures ∙ ap (ended _ _) (sym c.before.enum_told.given.1)
 
 returns-2 : tie.Need-returns-2
 unfolding ended

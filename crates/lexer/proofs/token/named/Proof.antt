@@ -1,8 +1,8 @@
 -- `named` meets its promise: by the gap behind the name, and the byte behind that. Assumes nothing.
 use native.Mathlib.Omega.{arith}
 use borrow.Author.Rules.{rules}
-use Rattle.lexer.proofs.GapLaws.{gap-past, gap-open, past-onward, past-inside, open-onward, open-inside}
-use Rattle.lexer.proofs.TokenLaws.{call-open, call-last, call-here, head-here}
+use Rattle.lexer.proofs.GapLaws.{gap_past, gap_open, past_onward, past_inside, open_onward, open_inside}
+use Rattle.lexer.proofs.TokenLaws.{call_open, call_last, call_here, head_here}
 use Rattle.lexer.proofs.token.named.Statement.{statement}
 use Rattle.lexer.proofs.token.named.Tie as tie
 
@@ -30,8 +30,8 @@ simple-requires-2 c κs = search rules
 returns : tie.Need-returns
 returns c =
     let l = c.before in let s = l.before.before in let n = s.before.before.before in let g = s.before.before.gap_from.ensures in
-    call-last _ _ (omega arith) n.before.before.requires.1 n.name-end.ensures (gap-past g s.i.given.1) (past-onward g s.i.given.1)
-    l.if1.true (past-inside g s.i.given.1 (n.name-end.ensures.inside (omega arith))) c.simple2.ensures
+    call_last _ _ (omega arith) n.before.before.requires.1 n.name-end.ensures (gap_past g s.i.given.1) (past_onward g s.i.given.1)
+    l.if1.true (past_inside g s.i.given.1 (n.name-end.ensures.inside (omega arith))) c.simple2.ensures
 
 shared-slice-read-if2 : tie.Need-shared-slice-read-if2
 shared-slice-read-if2 c = search rules
@@ -45,7 +45,7 @@ simple-requires-3 c κs = search rules
 returns-2 : tie.Need-returns-2
 returns-2 c =
     let l = c.before.before.before in let s = l.before.before in let n = s.before.before.before in let g = s.before.before.gap_from.ensures in
-    head-here _ _ (omega arith) n.before.before.requires.1 n.name-end.ensures (gap-past g s.i.given.1) (past-onward g s.i.given.1)
+    head_here _ _ (omega arith) n.before.before.requires.1 n.name-end.ensures (gap_past g s.i.given.1) (past_onward g s.i.given.1)
     l.if1.false c.before.if2.true c.simple3.ensures
 
 simple-requires-4 : tie.Need-simple-requires-4
@@ -54,12 +54,12 @@ simple-requires-4 c κs = search rules
 returns-3 : tie.Need-returns-3
 returns-3 c =
     let s = c.before.before in let n = s.before.before.before in let g = s.before.before.gap_from.ensures in let e = s.comment.given.1 in
-    call-open _ _ (omega arith) n.before.before.requires.1 n.name-end.ensures (gap-open g e) (open-onward g e) (open-inside g e) c.simple.ensures
+    call_open _ _ (omega arith) n.before.before.requires.1 n.name-end.ensures (gap_open g e) (open_onward g e) (open_inside g e) c.simple.ensures
 
 returns-4 : tie.Need-returns-4
 returns-4 c =
     let l = c.before.before.before in let s = l.before.before in let n = s.before.before.before in let g = s.before.before.gap_from.ensures in
-    call-here _ _ (omega arith) n.before.before.requires.1 n.name-end.ensures (gap-past g s.i.given.1) (past-onward g s.i.given.1)
+    call_here _ _ (omega arith) n.before.before.requires.1 n.name-end.ensures (gap_past g s.i.given.1) (past_onward g s.i.given.1)
     l.if1.false c.before.if2.false c.simple4.ensures
 
 pub named-spec : {M : Type 1} → statement M

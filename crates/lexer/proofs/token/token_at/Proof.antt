@@ -2,7 +2,7 @@
 use mathlib.Core.Path.{sym, ◌∙◌}
 use native.Mathlib.Omega.{arith}
 use borrow.Author.Rules.{rules}
-use Rattle.lexer.proofs.TokenLaws.{quote-begins, class-begins}
+use Rattle.lexer.proofs.TokenLaws.{quote_begins, class_begins}
 use Rattle.lexer.proofs.token.token_at.Statement.{statement}
 use Rattle.lexer.proofs.token.token_at.Tie as tie
 
@@ -43,13 +43,13 @@ sign-requires : tie.Need-sign-requires
 sign-requires c κs =
     let n = c.match.rest in
     let l = sym c.before.before.is-letter.ensures ∙ c.before.if1.false in
-    (omega arith, record { no-letter = l; no-mark = n.0.0.1; no-class = n.0.1; no-operator = n.1 })
+    (omega arith, record { no_letter = l; no_mark = n.0.0.1; no_class = n.0.1; no_operator = n.1 })
 
 returns-2 : tie.Need-returns-2
-returns-2 c = quote-begins _ _ (omega arith) c.before.before.match.keys1 _ c.before.quote-end.ensures c.ended.ensures
+returns-2 c = quote_begins _ _ (omega arith) c.before.before.match.keys1 _ c.before.quote-end.ensures c.ended.ensures
 
 returns-3 : tie.Need-returns-3
-returns-3 c = class-begins _ _ (omega arith) c.before.before.match.keys2 _ c.before.class-end.ensures c.ended2.ensures
+returns-3 c = class_begins _ _ (omega arith) c.before.before.match.keys2 _ c.before.class-end.ensures c.ended2.ensures
 
 returns-4 : tie.Need-returns-4
 returns-4 c = search rules

@@ -2,7 +2,7 @@
 use native.Mathlib.Omega.{arith}
 use borrow.Author.Rules.{rules}
 use Rattle.lexer.proofs.GapLaws.{no_gap}
-use Rattle.lexer.proofs.LexedLaws.{lexed-token}
+use Rattle.lexer.proofs.LexedLaws.{lexed_token}
 use Rattle.lexer.proofs.token.token_from.Statement.{statement}
 use Rattle.lexer.proofs.token.token_from.Tie as tie
 
@@ -26,7 +26,7 @@ token-at-requires c κs = search rules
 
 returns-3 : tie.Need-returns-3
 returns-3 c =
-    lexed-token _ _ _ (no_gap c.before.if2.false c.before.before.front.ensures) (omega arith) c.before.before.before.if1.false c.token-at.ensures
+    lexed_token _ _ _ (no_gap c.before.if2.false c.before.before.front.ensures) (omega arith) c.before.before.before.if1.false c.token-at.ensures
 
 pub token-from-spec : {M : Type 1} → statement M
 token-from-spec =

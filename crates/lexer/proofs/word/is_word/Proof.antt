@@ -10,9 +10,9 @@ use borrow.Author.Rules.{rules}
 use borrow.Author.Tests.{not-true, not-false}
 use Rattle.notation.specs.Lexer.{same}
 use Rattle.notation.specs.At.{name_at}
-use Rattle.lexer.specs.Names.{goesOn}
-use Rattle.lexer.proofs.NameLaws.{goes-inside}
-use Rattle.lexer.proofs.WordLaws.{word_on, word-differs, word-short, word-ends}
+use Rattle.lexer.specs.Names.{goes_on}
+use Rattle.lexer.proofs.NameLaws.{goes_inside}
+use Rattle.lexer.proofs.WordLaws.{word_on, word_differs, word_short, word_ends}
 use Rattle.lexer.proofs.word.is_word.Statement.{statement}
 use Rattle.lexer.proofs.word.is_word.Tie as tie
 
@@ -36,17 +36,17 @@ returns : tie.Need-returns invariant-loop decreases-loop
 returns c =
     let s = c.before.before.before in let a = s.before.before.before.args in
     sym (s.loop.invariant.0
-    ∙ word-short a.text.now (a.from + s.loop.k) a.word.now s.loop.k (sym c.before.in-name.ensures ∙ not-true _ c.if1.true) (omega arith))
+    ∙ word_short a.text.now (a.from + s.loop.k) a.word.now s.loop.k (sym c.before.in-name.ensures ∙ not-true _ c.if1.true) (omega arith))
 
 -- Behind the first test a byte of the name stands at the place.
 goes : (c : tie.Else1 invariant-loop decreases-loop)
-    → (let s = c.before.before.before in let a = s.before.before.before.args in goesOn (drop (a.from + s.loop.k) a.text.now) ≡ true)
+    → (let s = c.before.before.before in let a = s.before.before.before.args in goes_on (drop (a.from + s.loop.k) a.text.now) ≡ true)
 goes c = sym c.before.in-name.ensures ∙ not-false _ c.if1.false
 
 inside : (c : tie.Else1 invariant-loop decreases-loop)
     → (let s = c.before.before.before in let a = s.before.before.before.args in a.from + s.loop.k < length a.text.now)
 inside c =
-    let s = c.before.before.before in let a = s.before.before.before.args in goes-inside a.text.now (a.from + s.loop.k) (goes c)
+    let s = c.before.before.before in let a = s.before.before.before.args in goes_inside a.text.now (a.from + s.loop.k) (goes c)
 
 add-if2 : tie.Need-overflow-add-if2 invariant-loop decreases-loop
 add-if2 c = omega arith
@@ -61,7 +61,7 @@ returns-2 : tie.Need-returns-2 invariant-loop decreases-loop
 returns-2 c =
     let d = c.before.before.before in let s = d.before.before.before in let a = s.before.before.before.args in
     sym (s.loop.invariant.0
-    ∙ word-differs a.text.now (a.from + s.loop.k) a.word.now s.loop.k (goes d) (omega arith) c.if2.true)
+    ∙ word_differs a.text.now (a.from + s.loop.k) a.word.now s.loop.k (goes d) (omega arith) c.if2.true)
 
 add-k : tie.Need-overflow-add-k invariant-loop decreases-loop
 add-k c = omega arith
@@ -89,7 +89,7 @@ in-name-requires-2 c κs = search rules
 returns-3 : tie.Need-returns-3 invariant-loop decreases-loop
 returns-3 c =
     let s = c.before.before in let a = s.before.before.before.args in
-    sym (s.loop.invariant.0 ∙ word-ends a.text.now (a.from + s.loop.k) a.word.now s.loop.k (omega arith)
+    sym (s.loop.invariant.0 ∙ word_ends a.text.now (a.from + s.loop.k) a.word.now s.loop.k (omega arith)
     ∙ ap not (sym c.in-name2.ensures))
 
 pub is-word-spec : {M : Type 1} → statement M

@@ -14,15 +14,15 @@ use Rattle.notation.specs.At.{name_at}
 use Rattle.lexer.specs.Meant.{meant, placed, Lexed}
 use Rattle.lexer.specs.declared.token.Token as lexer
 use Rattle.naming.specs.Told.{stopped, named}
-use Rattle.naming.specs.Gathered.{sortOf}
-use Rattle.naming.proofs.StepLaws.{is_one, steps, goes_on, name-is, over}
-use Rattle.naming.proofs.GatherLaws.{sort-bad, Gathering, gathering-room, gathering-past, gathering-on, gathering-none, gathering-all}
+use Rattle.naming.specs.Gathered.{sort_of}
+use Rattle.naming.proofs.StepLaws.{is_one, steps, goes_on, name_is, over}
+use Rattle.naming.proofs.GatherLaws.{sort_bad, Gathering, gathering_room, gathering_past, gathering_on, gathering_none, gathering_all}
 use Rattle.naming.proofs.gather.gather.Statement.{statement}
 use Rattle.naming.proofs.gather.gather.Tie as tie
 
 abbrev invariant-loop : tie.invariant-loop
 invariant-loop text at₀ sort g₀ place₀ at g place =
-    (place ≤ length text) × (length at ≡ length at₀) × Gathering (sortOf sort) text (lexemes text) at g (lexemes (drop place text))
+    (place ≤ length text) × (length at ≡ length at₀) × Gathering (sort_of sort) text (lexemes text) at g (lexemes (drop place text))
 
 abbrev decreases-loop : tie.decreases-loop
 decreases-loop text at₀ sort g₀ place₀ at g place = length text - place
@@ -30,7 +30,7 @@ decreases-loop text at₀ sort g₀ place₀ at g place = length text - place
 loop-holds : tie.Need-loop-init invariant-loop decreases-loop
 loop-holds c =
     let a = c.before.before.args in
-    (omega arith, refl, gathering-none (sortOf a.sort) a.text.now (lexemes a.text.now))
+    (omega arith, refl, gathering_none (sort_of a.sort) a.text.now (lexemes a.text.now))
 
 token-from-requires : tie.Need-token-from-requires invariant-loop decreases-loop
 token-from-requires c κs = search rules
@@ -45,11 +45,11 @@ returns : tie.Need-returns invariant-loop decreases-loop
 returns c =
     let l = c.before.before.before in
     let a = l.before.before.before.args in
-    let f = sortOf a.sort in
+    let f = sort_of a.sort in
     let text = a.text.now in
-    gathering-all f text
+    gathering_all f text
     (over c.before.before.token-from.ensures (sym c.before.stops.ensures ∙ c.if1.true) (Gathering f text (lexemes text) l.loop.at l.loop.g)
-    (λ x e. gathering-past f text (lexemes text) (ap f e ∙ sort-bad a.sort)) l.loop.invariant.2)
+    (λ x e. gathering_past f text (lexemes text) (ap f e ∙ sort_bad a.sort)) l.loop.invariant.2)
 
 is-of-requires : tie.Need-is-of-requires invariant-loop decreases-loop
 is-of-requires c κs = c.before.before.token-from.ensures.numbers
@@ -66,7 +66,7 @@ module _ (c : tie.After-is-of invariant-loop decreases-loop) where
   text = start.args.text.now
 
   abbrev f : Token → List Name
-  f = sortOf start.args.sort
+  f = sort_of start.args.sort
 
   abbrev t : lexer.Token
   t = c.before.before.before.token-from.result
@@ -91,8 +91,8 @@ add-requires c κs =
     let s = c.before.before in
     let G = (here s).loop.invariant.2 in
     let k = is_one (L s) (one s) in (
-      omega (arith, gathering-room (f s) (text s) (lexemes (text s)) G, (start s).requires.1, (here s).loop.invariant.1),
-      omega (arith, (L s).name-inside k.0 k.1, (start s).requires.0),
+      omega (arith, gathering_room (f s) (text s) (lexemes (text s)) G, (start s).requires.1, (here s).loop.invariant.1),
+      omega (arith, (L s).name_inside k.0 k.1, (start s).requires.0),
       G.ordered,
     )
 
@@ -105,7 +105,7 @@ loop-again c =
     let A = c.before.before.add.ensures in (
       (on s).1,
       A.long ∙ (here s).loop.invariant.1,
-      gathering-on (f s) (text s) (lexemes (text s)) (name-is (L s) (one s)) (says s c.before.before.before.before.if2.true) A (front s),
+      gathering_on (f s) (text s) (lexemes (text s)) (name_is (L s) (one s)) (says s c.before.before.before.before.if2.true) A (front s),
     )
 
 loop-less-2 : tie.Need-loop-smaller-2 invariant-loop decreases-loop
@@ -114,7 +114,7 @@ loop-less-2 c = omega (arith, on c.before)
 loop-again-2 : tie.Need-loop-preserved-2 invariant-loop decreases-loop
 loop-again-2 c =
     let s = c.before in
-    ((on s).1, (here s).loop.invariant.1, gathering-past (f s) (text s) (lexemes (text s)) (says s c.if2.false) (front s))
+    ((on s).1, (here s).loop.invariant.1, gathering_past (f s) (text s) (lexemes (text s)) (says s c.if2.false) (front s))
 
 pub gather-spec : {M : Type 1} → statement M
 gather-spec =

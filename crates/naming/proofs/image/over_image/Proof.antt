@@ -14,9 +14,9 @@ use Rattle.lexer.specs.Meant.{placed, Lexed}
 use Rattle.lexer.specs.declared.token.Token.{Token}
 use Rattle.naming.specs.Found.{found}
 use Rattle.naming.specs.Told.{stopped}
-use Rattle.naming.proofs.StepLaws.{steps, goes_on, name-is, over}
-use Rattle.naming.proofs.HeadLaws.{head-is, no-head}
-use Rattle.naming.proofs.ImageLaws.{Ending, ending-over, ending-out, ending-token, ending-head, ending_here, ending-bad, above-is}
+use Rattle.naming.proofs.StepLaws.{steps, goes_on, name_is, over}
+use Rattle.naming.proofs.HeadLaws.{head_is, no_head}
+use Rattle.naming.proofs.ImageLaws.{Ending, ending_over, ending_out, ending_token, ending_head, ending_here, ending_bad, above_is}
 use Rattle.naming.proofs.image.over_image.Statement.{statement}
 use Rattle.naming.proofs.image.over_image.Tie as tie
 
@@ -55,16 +55,16 @@ returns c ps g r S =
     let l = c.before.before.before in
     let E = over c.before.before.token-from.ensures (sym c.before.stops.ensures ∙ c.if1.true)
     (Ending 16384 (base l) (ends l) (namePlace (text l)) (lexemes (text l)) l.loop.i)
-    (ending-bad 16384 (base l) (ends l) (namePlace (text l)) (lexemes (text l))) l.loop.invariant.1
+    (ending_bad 16384 (base l) (ends l) (namePlace (text l)) (lexemes (text l))) l.loop.invariant.1
     in
-    ending-over 16384 (base l) (ends l) (namePlace (text l)) (lexemes (text l)) E
-    ∙ ap (found (namePlace (text l))) (above-is r g (base l) (ends l) S 16384)
+    ending_over 16384 (base l) (ends l) (namePlace (text l)) (lexemes (text l)) E
+    ∙ ap (found (namePlace (text l))) (above_is r g (base l) (ends l) S 16384)
 
 returns-2 : tie.Need-returns-2 invariant-loop decreases-loop
 returns-2 c ps g r S =
     let l = c.before.before.before.before.before in
-    ending-out 16384 (base l) (ends l) (namePlace (text l)) (lexemes (text l)) c.if3.true l.loop.invariant.1
-    ∙ ap (found (namePlace (text l))) (above-is r g (base l) (ends l) S 16384)
+    ending_out 16384 (base l) (ends l) (namePlace (text l)) (lexemes (text l)) c.if3.true l.loop.invariant.1
+    ∙ ap (found (namePlace (text l))) (above_is r g (base l) (ends l) S 16384)
 
 mul_wide : tie.Need-overflow-mul-wide invariant-loop decreases-loop
 mul_wide c = omega arith
@@ -113,9 +113,9 @@ returns-3 c ps g r S =
     let h = c.before.before.before.before in
     let s = h.before.before in
     let l = here s in
-    ending_here 16384 (base l) (ends l) (namePlace (text l)) (lexemes (text l)) (front s) (head-is (text l) (t s) h.before.if2.true)
-    h.if3.false (tested c.before c.if4.true) (name-is (L s) (one s))
-    ∙ ap (found (namePlace (text l))) (above-is r g (base l) (ends l) S 16384)
+    ending_here 16384 (base l) (ends l) (namePlace (text l)) (lexemes (text l)) (front s) (head_is (text l) (t s) h.before.if2.true)
+    h.if3.false (tested c.before c.if4.true) (name_is (L s) (one s))
+    ∙ ap (found (namePlace (text l))) (above_is r g (base l) (ends l) S 16384)
 
 add-i : tie.Need-overflow-add-i invariant-loop decreases-loop
 add-i c = omega arith
@@ -129,7 +129,7 @@ loop-again c =
     let s = h.before.before in
     let l = here s in (
       (on s).1,
-      ending-head 16384 (base l) (ends l) (namePlace (text l)) (lexemes (text l)) (front s) (head-is (text l) (t s) h.before.if2.true)
+      ending_head 16384 (base l) (ends l) (namePlace (text l)) (lexemes (text l)) (front s) (head_is (text l) (t s) h.before.if2.true)
           h.if3.false (tested c.before c.if4.false),
     )
 
@@ -140,7 +140,7 @@ loop-again-2 : tie.Need-loop-preserved-2 invariant-loop decreases-loop
 loop-again-2 c =
     let s = c.before in
     let l = here s in
-    ((on s).1, ending-token 16384 (base l) (ends l) (namePlace (text l)) (lexemes (text l)) (front s) (no-head (text l) (t s) c.if2.false))
+    ((on s).1, ending_token 16384 (base l) (ends l) (namePlace (text l)) (lexemes (text l)) (front s) (no_head (text l) (t s) c.if2.false))
 
 pub over-image-spec : {M : Type 1} → statement M
 over-image-spec =

@@ -9,16 +9,16 @@ use borrow.Author.Rules.{rules}
 use lib.ListN.{length, drop}
 use Rattle.notation.specs.Lexer.{lexemes}
 use Rattle.notation.specs.Naming.{all}
-use Rattle.notation.specs.Places.{tokenPlace, long}
+use Rattle.notation.specs.Places.{token_place, long}
 use Rattle.naming.specs.Told.{stopped}
 use Rattle.naming.proofs.StepLaws.{goes_on, place_is, spelt}
-use Rattle.naming.proofs.WhereLaws.{Still, still-past, still-here, still-over}
+use Rattle.naming.proofs.WhereLaws.{Still, still_past, still_here, still_over}
 use Rattle.naming.proofs.long.first_long.Statement.{statement}
 use Rattle.naming.proofs.long.first_long.Tie as tie
 
 abbrev invariant-loop : tie.invariant-loop
 invariant-loop text at₀ at =
-    (at ≤ length text) × Still long (tokenPlace text) (lexemes text) (lexemes (drop at text))
+    (at ≤ length text) × Still long (token_place text) (lexemes text) (lexemes (drop at text))
 
 abbrev decreases-loop : tie.decreases-loop
 decreases-loop text at₀ at = length text - at
@@ -44,7 +44,7 @@ returns : tie.Need-returns invariant-loop decreases-loop
 unfolding all
 returns c =
     let l = c.before.before.before in
-    still-over long (tokenPlace (text l)) (lexemes (text l)) c.before.before.token-from.ensures l.loop.invariant.1
+    still_over long (token_place (text l)) (lexemes (text l)) c.before.before.token-from.ensures l.loop.invariant.1
     (sym c.before.stops.ensures ∙ c.if1.true) refl
 
 is-long-requires : tie.Need-is-long-requires invariant-loop decreases-loop
@@ -61,7 +61,7 @@ returns-2 c =
     let k = s.before.before.before in
     let l = k.before in
     let L = k.token-from.ensures in
-    still-here long (tokenPlace (text l)) (lexemes (text l)) L l.loop.invariant.1 (one s) (sym s.is-long.ensures ∙ c.if2.true)
+    still_here long (token_place (text l)) (lexemes (text l)) L l.loop.invariant.1 (one s) (sym s.is-long.ensures ∙ c.if2.true)
     (place_is L)
 
 loop-less : tie.Need-loop-smaller invariant-loop decreases-loop
@@ -75,7 +75,7 @@ loop-again c =
     let l = k.before in
     let L = k.token-from.ensures in (
       (goes_on L (one s) l.loop.invariant.0).1,
-      still-past long (tokenPlace (text l)) (lexemes (text l)) L l.loop.invariant.1 (one s) (sym s.is-long.ensures ∙ c.if2.false),
+      still_past long (token_place (text l)) (lexemes (text l)) L l.loop.invariant.1 (one s) (sym s.is-long.ensures ∙ c.if2.false),
     )
 
 pub first-long-spec : {M : Type 1} → statement M

@@ -12,11 +12,11 @@ use Rattle.notation.specs.Lexer.{lexemes}
 use Rattle.notation.specs.Places.{namePlace}
 use Rattle.lexer.specs.Meant.{placed, Lexed}
 use Rattle.lexer.specs.declared.token.Token.{Token}
-use Rattle.naming.specs.Found.{hereIf}
+use Rattle.naming.specs.Found.{here_if}
 use Rattle.naming.specs.Told.{stopped}
-use Rattle.naming.proofs.StepLaws.{steps, goes_on, name-is, spelt, over}
-use Rattle.naming.proofs.HeadLaws.{head-is, no-head}
-use Rattle.naming.proofs.OverLaws.{Weighing, weighing-all, weighing-token, weighing-head, weighing-here, weighing-bad, weighing-end, past_is}
+use Rattle.naming.proofs.StepLaws.{steps, goes_on, name_is, spelt, over}
+use Rattle.naming.proofs.HeadLaws.{head_is, no_head}
+use Rattle.naming.proofs.OverLaws.{Weighing, weighing_all, weighing_token, weighing_head, weighing_here, weighing_bad, weighing_end, past_is}
 use Rattle.naming.proofs.nodes.over_nodes.Statement.{statement}
 use Rattle.naming.proofs.nodes.over_nodes.Tie as tie
 
@@ -28,7 +28,7 @@ abbrev decreases-loop : tie.decreases-loop
 decreases-loop text at₀ nodes₀ weight₀ name₀ at nodes weight name = length text - at
 
 loop-holds : tie.Need-loop-init invariant-loop decreases-loop
-loop-holds c = let s = c.before in (omega arith, weighing-all 512 s.args.text.now (namePlace s.args.text.now) s.requires)
+loop-holds c = let s = c.before in (omega arith, weighing_all 512 s.args.text.now (namePlace s.args.text.now) s.requires)
 
 token-from-requires : tie.Need-token-from-requires invariant-loop decreases-loop
 token-from-requires c κs = search rules
@@ -50,10 +50,10 @@ returns c ps r =
     let text = l.before.before.args.text.now in
     let W = over k.token-from.ensures (sym o.before.stops.ensures ∙ o.if1.true)
     (Weighing 512 (namePlace text) (lexemes text) l.loop.name l.loop.nodes l.loop.weight)
-    (weighing-bad 512 (namePlace text) (lexemes text)) l.loop.invariant.1
+    (weighing_bad 512 (namePlace text) (lexemes text)) l.loop.invariant.1
     in
-    c.first_of.ensures ∙ ap (λ n. hereIf (ltb 512 n) l.loop.name) c.before.closed.ensures
-    ∙ weighing-end 512 (namePlace text) (lexemes text) W ∙ past_is r 512 (namePlace text)
+    c.first_of.ensures ∙ ap (λ n. here_if (ltb 512 n) l.loop.name) c.before.closed.ensures
+    ∙ weighing_end 512 (namePlace text) (lexemes text) W ∙ past_is r 512 (namePlace text)
 
 -- The token that the loop looks at, in front of what is still to come.
 module _ (c : tie.Else1 invariant-loop decreases-loop) where
@@ -86,7 +86,7 @@ closed-requires-2 c κs = omega (arith, (here c.before).loop.inv.1.light)
 returns-2 : tie.Need-returns-2 invariant-loop decreases-loop
 returns-2 c ps r =
     let s = c.before.before.before in
-    weighing-here 512 (namePlace (text s)) (lexemes (text s)) (front s) (head-is (text s) (t s) c.before.before.if2.true)
+    weighing_here 512 (namePlace (text s)) (lexemes (text s)) (front s) (head_is (text s) (t s) c.before.before.if2.true)
     c.before.closed2.ensures c.if3.true
     ∙ past_is r 512 (namePlace (text s))
 
@@ -100,8 +100,8 @@ loop-again : tie.Need-loop-preserved invariant-loop decreases-loop
 loop-again c =
     let s = c.before.before.before in (
       (on s).1,
-      weighing-head 512 (namePlace (text s)) (lexemes (text s)) (front s) (head-is (text s) (t s) c.before.before.if2.true)
-          c.before.closed2.ensures c.if3.false (name-is (L s) (one s)),
+      weighing_head 512 (namePlace (text s)) (lexemes (text s)) (front s) (head_is (text s) (t s) c.before.before.if2.true)
+          c.before.closed2.ensures c.if3.false (name_is (L s) (one s)),
     )
 
 loop-less-2 : tie.Need-loop-smaller-2 invariant-loop decreases-loop
@@ -111,7 +111,7 @@ loop-again-2 : tie.Need-loop-preserved-2 invariant-loop decreases-loop
 loop-again-2 c =
     let s = c.before.before in (
       (on s).1,
-      weighing-token 512 (namePlace (text s)) (lexemes (text s)) (front s) (no-head (text s) (t s) c.before.if2.false) c.weight-of.ensures,
+      weighing_token 512 (namePlace (text s)) (lexemes (text s)) (front s) (no_head (text s) (t s) c.before.if2.false) c.weight-of.ensures,
     )
 
 add-weight : tie.Need-overflow-add-weight invariant-loop decreases-loop

@@ -11,16 +11,16 @@ use Rattle.notation.specs.Tree.{Name}
 use Rattle.notation.specs.Lexer.{lexemes}
 use Rattle.notation.specs.At.{name_at}
 use Rattle.index.specs.Listed.{names_at}
-use Rattle.index.specs.PlaceLaws.{names-length}
+use Rattle.index.specs.PlaceLaws.{names_length}
 use Rattle.lexer.specs.Meant.{placed, Lexed}
 use Rattle.lexer.specs.declared.token.Token.{Token}
 use Rattle.naming.specs.Told.{stopped}
 use Rattle.naming.specs.Rooted.{Rootable}
 use Rattle.naming.proofs.StepLaws.{steps, goes_on, spelt, over}
-use Rattle.naming.proofs.HeadLaws.{name_of, head-is, head-name, no-head}
+use Rattle.naming.proofs.HeadLaws.{name_of, head_is, head_name, no_head}
 use Rattle.naming.proofs.EndLaws.{Ended, endings}
-use Rattle.naming.proofs.FillLaws.{Filling, filling-open, filling-last, filling-token, filling-head, filling-bad, filling-filled, filling-counted}
-use Rattle.naming.proofs.RootLaws.{settles, ordered, first-listed, filling-all, rooted}
+use Rattle.naming.proofs.FillLaws.{Filling, filling_open, filling_last, filling_token, filling_head, filling_bad, filling_filled, filling_counted}
+use Rattle.naming.proofs.RootLaws.{settles, ordered, first_listed, filling_all, rooted}
 use Rattle.naming.proofs.roots.fill_roots.Statement.{statement}
 use Rattle.naming.proofs.roots.fill_roots.Tie as tie
 
@@ -39,7 +39,7 @@ token-from-requires c κs = search rules
 loop-holds : tie.Need-loop-init invariant-loop decreases-loop
 loop-holds c =
     let s = c.before.before.before.before in
-    (omega arith, filling-all s.requires.1 (name_at s.args.text.now c.token-from.result.name) s.requires.0)
+    (omega arith, filling_all s.requires.1 (name_at s.args.text.now c.token-from.result.name) s.requires.0)
 
 token-from-requires-2 : tie.Need-token-from-requires-2 invariant-loop decreases-loop
 token-from-requires-2 c κs = search rules
@@ -79,7 +79,7 @@ module _ (c : tie.Then1 invariant-loop decreases-loop) where
   whole_in =
       over c.before.before.token-from2.ensures (sym c.before.stops.ensures ∙ c.if1.true)
       (Filling (ns there) (roots there) (all there) (name_at (text there) there.loop.name) there.loop.nodes there.loop.weight there.loop.roots)
-      (filling-bad (ns there) (roots there) (all there)) there.loop.inv.1
+      (filling_bad (ns there) (roots there) (all there)) there.loop.inv.1
 
 settle-requires : tie.Need-settle-requires invariant-loop decreases-loop
 settle-requires c κs =
@@ -87,7 +87,7 @@ settle-requires c κs =
     let l = there s in
     let F = whole_in s in
     settles (text l) (heads l) l.loop.roots l.loop.name l.loop.nodes l.loop.weight (ordered (R l)) (omega (arith, F.light)) F.long
-    (filling-last (ns l) (roots l) (all l) F)
+    (filling_last (ns l) (roots l) (all l) F)
 
 -- There is still a number for each name.
 as_long :
@@ -95,13 +95,13 @@ as_long :
 as_long c =
     let s = c.before.before in
     let l = there s in
-    omega (arith, c.settle.auto.1.1.0, (whole_in s).long, names-length (text l) (heads l) (length (heads l)) (omega arith))
+    omega (arith, c.settle.auto.1.1.0, (whole_in s).long, names_length (text l) (heads l) (length (heads l)) (omega arith))
 
 root-of-requires : tie.Need-root-of-requires invariant-loop decreases-loop
 root-of-requires c κs =
     let d = c.before.before.before in
     let l = there d.before.before in
-    record { ordered = ordered (R l); named = first-listed (R l) l.before.token-from.ensures; long = as_long d }
+    record { ordered = ordered (R l); named = first_listed (R l) l.before.token-from.ensures; long = as_long d }
 
 same_length : tie.Need-same-length invariant-loop decreases-loop
 same_length c =
@@ -114,8 +114,8 @@ returns c =
     let l = there s in
     let x = name_at (text l) l.before.token-from.result.name in
     let S = d.settle.ensures in
-    rooted (R l) x l.before.token-from.ensures (filling-filled (ns l) (roots l) (all l) (whole_in s) S.filled)
-    (filling-counted (ns l) (roots l) (all l) (whole_in s) S.end) c.root-of.ensures
+    rooted (R l) x l.before.token-from.ensures (filling_filled (ns l) (roots l) (all l) (whole_in s) S.filled)
+    (filling_counted (ns l) (roots l) (all l) (whole_in s) S.end) c.root-of.ensures
 
 -- The token that the loop looks at, in front of what is still to come.
 module _ (c : tie.Else1 invariant-loop decreases-loop) where
@@ -145,7 +145,7 @@ settle-requires-2 c κs =
     let l = here s in
     let F = front s in
     settles (text l) (heads l) l.loop.roots l.loop.name l.loop.nodes l.loop.weight (ordered (R l)) (omega (arith, F.light)) F.long
-    (filling-open (ns l) (roots l) (all l) (head-is (text l) (t s) c.before.if2.true) F)
+    (filling_open (ns l) (roots l) (all l) (head_is (text l) (t s) c.before.if2.true) F)
 
 weight-of-requires : tie.Need-weight-of-requires invariant-loop decreases-loop
 weight-of-requires c κs = let s = c.before in (spelt (L s) (one s), (L s).parted)
@@ -161,7 +161,7 @@ loop-again c =
     let S = c.before.before.settle2.ensures in
     let k = h.if2.true in (
       (on s).1,
-      filling-head (ns l) (roots l) (all l) (front s) (head-is (text l) (t s) k) S.end S.filled (head-name (text l) (t s) k),
+      filling_head (ns l) (roots l) (all l) (front s) (head_is (text l) (t s) k) S.end S.filled (head_name (text l) (t s) k),
     )
 
 loop-less-2 : tie.Need-loop-smaller-2 invariant-loop decreases-loop
@@ -171,7 +171,7 @@ loop-again-2 : tie.Need-loop-preserved-2 invariant-loop decreases-loop
 loop-again-2 c =
     let s = c.before.before in
     let l = here s in
-    ((on s).1, filling-token (ns l) (roots l) (all l) (front s) (no-head (text l) (t s) c.before.if2.false) c.weight-of.ensures)
+    ((on s).1, filling_token (ns l) (roots l) (all l) (front s) (no_head (text l) (t s) c.before.if2.false) c.weight-of.ensures)
 
 add-weight : tie.Need-overflow-add-weight invariant-loop decreases-loop
 add-weight c = omega (arith, (loop-again-2 c).1.light)

@@ -5,7 +5,7 @@ use native.Mathlib.Omega.{arith}
 use borrow.Author.Rules.{rules}
 use borrow.Author.Tests.{eq-eqb, ne_eqb}
 use lib.ListN.{set}
-use Rattle.naming.specs.Rooted.{rootAt}
+use Rattle.naming.specs.Rooted.{root_at}
 use Rattle.naming.proofs.roots.settle.Statement.{statement}
 use Rattle.naming.proofs.roots.settle.Tie as tie
 
@@ -30,7 +30,7 @@ returns c =
     record {
       end = e;
       filled = rw (ne_eqb a.weight 0 c.before.before.before.before.if1.true)
-          (c.before.before.put-root.ensures ∙ ap (λ n. set a.roots.now (rootAt a.text.now a.heads.now a.name) (n - 1)) e);
+          (c.before.before.put-root.ensures ∙ ap (λ n. set a.roots.now (root_at a.text.now a.heads.now a.name) (n - 1)) e);
     }
 
 returns-2 : tie.Need-returns-2

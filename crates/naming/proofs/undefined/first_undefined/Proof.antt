@@ -13,8 +13,8 @@ use Rattle.notation.specs.Naming.{all}
 use Rattle.notation.specs.Places.{namePlace, undefined}
 use Rattle.index.specs.Listed.{names_at}
 use Rattle.naming.specs.Told.{stopped}
-use Rattle.naming.proofs.StepLaws.{goes_on, name-is}
-use Rattle.naming.proofs.WhereLaws.{Still, still-past, still-here, still-over}
+use Rattle.naming.proofs.StepLaws.{goes_on, name_is}
+use Rattle.naming.proofs.WhereLaws.{Still, still_past, still_here, still_over}
 use Rattle.naming.proofs.undefined.first_undefined.Statement.{statement}
 use Rattle.naming.proofs.undefined.first_undefined.Tie as tie
 
@@ -52,7 +52,7 @@ returns : tie.Need-returns invariant-loop decreases-loop
 unfolding all
 returns c =
     let l = c.before.before.before in
-    still-over (test l) (namePlace (text l)) (lexemes (text l)) c.before.before.token-from.ensures l.loop.invariant.1
+    still_over (test l) (namePlace (text l)) (lexemes (text l)) c.before.before.token-from.ensures l.loop.invariant.1
     (sym c.before.stops.ensures ∙ c.if1.true) refl
 
 is-undefined-requires : tie.Need-is-undefined-requires invariant-loop decreases-loop
@@ -68,8 +68,8 @@ returns-2 c =
     let k = s.before.before.before in
     let l = k.before in
     let L = k.token-from.ensures in
-    still-here (test l) (namePlace (text l)) (lexemes (text l)) L l.loop.invariant.1 (one s) (sym s.is-undefined.ensures ∙ c.if2.true)
-    (name-is L (one s))
+    still_here (test l) (namePlace (text l)) (lexemes (text l)) L l.loop.invariant.1 (one s) (sym s.is-undefined.ensures ∙ c.if2.true)
+    (name_is L (one s))
 
 loop-less : tie.Need-loop-smaller invariant-loop decreases-loop
 loop-less c =
@@ -82,7 +82,7 @@ loop-again c =
     let l = k.before in
     let L = k.token-from.ensures in (
       (goes_on L (one s) l.loop.invariant.0).1,
-      still-past (test l) (namePlace (text l)) (lexemes (text l)) L l.loop.invariant.1 (one s) (sym s.is-undefined.ensures ∙ c.if2.false),
+      still_past (test l) (namePlace (text l)) (lexemes (text l)) L l.loop.invariant.1 (one s) (sym s.is-undefined.ensures ∙ c.if2.false),
     )
 
 pub first-undefined-spec : {M : Type 1} → statement M

@@ -2,7 +2,7 @@
 use mathlib.Core.Path.{ap}
 use mathlib.Core.Bool.{not}
 use borrow.Author.Rules.{rules}
-use Rattle.naming.proofs.SeekLaws.{seeks-member}
+use Rattle.naming.proofs.SeekLaws.{seeks_member}
 use Rattle.naming.proofs.undefined.is_missing.Statement.{statement}
 use Rattle.naming.proofs.undefined.is_missing.Tie as tie
 
@@ -10,7 +10,7 @@ seek-requires : tie.Need-seek-requires
 seek-requires c κs = search rules
 
 returns : tie.Need-returns
-returns c = ap not (seeks-member c.before.seek.ensures)
+returns c = ap not (seeks_member c.before.seek.ensures)
 
 pub is-missing-spec : {M : Type 1} → statement M
 is-missing-spec = tie.close (tie.spec seek-requires returns)

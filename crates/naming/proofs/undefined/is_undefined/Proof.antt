@@ -6,7 +6,7 @@ use lib.ListN.{length}
 use borrow.Author.Rules.{rules}
 use Rattle.notation.specs.Tree.{Name}
 use Rattle.index.specs.Listed.{names_at}
-use Rattle.naming.proofs.UndefinedLaws.{call-told, ask-told, none_told}
+use Rattle.naming.proofs.UndefinedLaws.{call_told, ask_told, none_told}
 use Rattle.naming.proofs.undefined.is_undefined.Statement.{statement}
 use Rattle.naming.proofs.undefined.is_undefined.Tie as tie
 
@@ -31,7 +31,7 @@ returns : tie.Need-returns
 returns c =
     let r = c.before.before in
     let s = r.before.before.before.before in
-    c.is-missing.ensures ∙ sym (call-told (heads s) (tables s) (r.said.ensures (text s)) c.before.if1.true)
+    c.is-missing.ensures ∙ sym (call_told (heads s) (tables s) (r.said.ensures (text s)) c.before.if1.true)
 
 asks-requires : tie.Need-asks-requires
 asks-requires c κs = search rules
@@ -45,7 +45,7 @@ returns-2 c =
     let r = a.before.before in
     let s = r.before.before.before.before in
     c.is-missing2.ensures
-    ∙ sym (ask-told (heads s) (tables s) (r.said.ensures (text s)) a.before.if1.false (sym a.asks.ensures ∙ c.before.if2.true))
+    ∙ sym (ask_told (heads s) (tables s) (r.said.ensures (text s)) a.before.if1.false (sym a.asks.ensures ∙ c.before.if2.true))
 
 returns-3 : tie.Need-returns-3
 returns-3 c =

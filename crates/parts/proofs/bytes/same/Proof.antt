@@ -3,7 +3,7 @@
 use Prim.Native.Nat.{◌-◌}
 use native.Mathlib.Omega.{arith}
 use borrow.Author.Rules.{rules}
-use Rattle.parts.proofs.ByteLaws.{Compared, compared-none, compared-more, compared-differs, compared-all}
+use Rattle.parts.proofs.ByteLaws.{Compared, compared_none, compared_more, compared_differs, compared_all}
 use Rattle.parts.proofs.bytes.same.Statement.{statement}
 use Rattle.parts.proofs.bytes.same.Tie as tie
 
@@ -14,7 +14,7 @@ abbrev decreases-loop : tie.decreases-loop
 decreases-loop a i b j n k₀ k = n - k
 
 loop-holds : tie.Need-loop-init invariant-loop decreases-loop
-loop-holds c = let a = c.args in compared-none a.a.now a.i a.b.now a.j a.n
+loop-holds c = let a = c.args in compared_none a.a.now a.i a.b.now a.j a.n
 
 add-if1 : tie.Need-overflow-add-if1 invariant-loop decreases-loop
 add-if1 c = omega arith
@@ -32,7 +32,7 @@ returns : tie.Need-returns invariant-loop decreases-loop
 returns c =
     let s1 = c.before.before.before.before in
     let s2 = s1.before in
-    let a = s2.args in compared-differs a.a.now a.i a.b.now a.j a.n s1.loop.invariant (omega arith) (omega arith)
+    let a = s2.args in compared_differs a.a.now a.i a.b.now a.j a.n s1.loop.invariant (omega arith) (omega arith)
     (omega arith) c.if1.true
 
 add-k : tie.Need-overflow-add-k invariant-loop decreases-loop
@@ -45,12 +45,12 @@ loop-again : tie.Need-loop-preserved invariant-loop decreases-loop
 loop-again c =
     let s1 = c.before.before.before.before in
     let s2 = s1.before in
-    let a = s2.args in compared-more a.a.now a.i a.b.now a.j a.n s1.loop.invariant (omega arith) (omega arith)
+    let a = s2.args in compared_more a.a.now a.i a.b.now a.j a.n s1.loop.invariant (omega arith) (omega arith)
     (omega arith) c.if1.false
 
 returns-2 : tie.Need-returns-2 invariant-loop decreases-loop
 returns-2 c =
-    let a = c.before.before.args in compared-all a.a.now a.i a.b.now a.j a.n c.before.loop.invariant (omega arith)
+    let a = c.before.before.args in compared_all a.a.now a.i a.b.now a.j a.n c.before.loop.invariant (omega arith)
 
 pub same_spec : {M : Type 1} → statement M
 same_spec =

@@ -4,7 +4,7 @@ use mathlib.Core.Path.{◌≡◌, refl, sym, ◌∙◌}
 use native.Mathlib.Omega.{arith}
 use borrow.Author.Rules.{rules}
 use Rattle.meaning.specs.Outcome.{part}
-use Rattle.parts.specs.Seen.{found_in, look-end, look-other, look-found, look-differs}
+use Rattle.parts.specs.Seen.{found_in, look_end, look_other, look_found, look_differs}
 use Rattle.parts.proofs.compare.is_listed.Statement.{statement}
 use Rattle.parts.proofs.compare.is_listed.Tie as tie
 
@@ -44,7 +44,7 @@ is-symbol-requires c κs =
 returns : tie.Need-returns invariant-loop decreases-loop
 returns c =
     let s = c.before.before.before.before.before.before.before.before in let a = s.args in let l = c.before.before.before.before.before.loop in
-    look-found a.input.now (part a.input.now a.at a.to) a.table a.low a.slots.now l.next c.before.before.before.before.loop-test.true c.before.before.if1.true (sym c.if2.true ∙ c.before.is-symbol.ensures) ∙ sym l.invariant.1
+    look_found a.input.now (part a.input.now a.at a.to) a.table a.low a.slots.now l.next c.before.before.before.before.loop-test.true c.before.before.if1.true (sym c.if2.true ∙ c.before.is-symbol.ensures) ∙ sym l.invariant.1
 
 loop-less : tie.Need-loop-smaller invariant-loop decreases-loop
 loop-less c =
@@ -53,7 +53,7 @@ loop-less c =
 loop-again : tie.Need-loop-preserved invariant-loop decreases-loop
 loop-again c =
     let s = c.before.before.before.before.before.before.before.before in let a = s.args in let l = c.before.before.before.before.before.loop in
-    (omega (arith, l.invariant.0), l.invariant.1 ∙ look-differs a.input.now (part a.input.now a.at a.to) a.table a.low a.slots.now l.next c.before.before.before.before.loop-test.true c.before.before.if1.true (sym c.if2.false ∙ c.before.is-symbol.ensures))
+    (omega (arith, l.invariant.0), l.invariant.1 ∙ look_differs a.input.now (part a.input.now a.at a.to) a.table a.low a.slots.now l.next c.before.before.before.before.loop-test.true c.before.before.if1.true (sym c.if2.false ∙ c.before.is-symbol.ensures))
 
 loop-less-2 : tie.Need-loop-smaller-2 invariant-loop decreases-loop
 loop-less-2 c =
@@ -62,12 +62,12 @@ loop-less-2 c =
 loop-again-2 : tie.Need-loop-preserved-2 invariant-loop decreases-loop
 loop-again-2 c =
     let s = c.before.before.before.before.before.before in let a = s.args in let l = c.before.before.before.loop in
-    (omega (arith, l.invariant.0), l.invariant.1 ∙ look-other a.input.now (part a.input.now a.at a.to) a.table a.low a.slots.now l.next c.before.before.loop-test.true c.if1.false)
+    (omega (arith, l.invariant.0), l.invariant.1 ∙ look_other a.input.now (part a.input.now a.at a.to) a.table a.low a.slots.now l.next c.before.before.loop-test.true c.if1.false)
 
 returns-2 : tie.Need-returns-2 invariant-loop decreases-loop
 returns-2 c =
     let s = c.before.before.before.before in let a = s.args in let l = c.before.loop in
-    look-end a.input.now (part a.input.now a.at a.to) a.table a.low a.slots.now l.next c.loop-test.false ∙ sym l.invariant.1
+    look_end a.input.now (part a.input.now a.at a.to) a.table a.low a.slots.now l.next c.loop-test.false ∙ sym l.invariant.1
 
 pub is-listed-spec : {M : Type 1} → statement M
 is-listed-spec =

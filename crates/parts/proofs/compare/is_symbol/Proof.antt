@@ -1,7 +1,7 @@
 -- `is_symbol` meets its promise. Assumes nothing.
 use native.Mathlib.Omega.{arith}
 use Rattle.parts.specs.Slots.{symbol_at}
-use Rattle.parts.proofs.ByteLaws.{parts-differ, parts_same}
+use Rattle.parts.proofs.ByteLaws.{parts_differ, parts_same}
 use borrow.Author.Rules.{rules}
 use Rattle.parts.proofs.compare.is_symbol.Statement.{statement}
 use Rattle.parts.proofs.compare.is_symbol.Tie as tie
@@ -47,7 +47,7 @@ returns c =
     let s1 = c.before.before.before.before.before in
     let a = s1.args in
     let y = symbol_at a.slots.now a.number in
-    parts-differ a.input.now a.at a.to y.from y.to (omega arith) (omega arith) (λ e. omega arith)
+    parts_differ a.input.now a.at a.to y.from y.to (omega arith) (omega arith) (λ e. omega arith)
 
 sub_same : tie.Need-overflow-sub-same
 sub_same c = search rules

@@ -2,7 +2,7 @@
 use mathlib.Core.Path.{refl, ap, ◌∙◌}
 use native.Mathlib.Omega.{arith}
 use Rattle.parts.specs.Packed.{opened_of}
-use Rattle.parts.specs.PackedLaws.{opens-failed}
+use Rattle.parts.specs.PackedLaws.{opens_failed}
 use borrow.Author.Rules.{rules}
 use Rattle.parts.proofs.outcome.failed.Statement.{statement}
 use Rattle.parts.proofs.outcome.failed.Tie as tie
@@ -13,7 +13,7 @@ shut-requires c κs = search rules
 returns : tie.Need-returns
 returns c =
     let a = c.before.args in ap opened_of c.shut.ensures
-    ∙ opens-failed 1 0 0 a.steps a.depth (omega arith) (omega arith) (omega arith) (omega arith) (omega arith) refl
+    ∙ opens_failed 1 0 0 a.steps a.depth (omega arith) (omega arith) (omega arith) (omega arith) (omega arith) refl
 
 pub failed-spec : {M : Type 1} → statement M
 failed-spec = tie.close (tie.spec shut-requires returns)

@@ -3,7 +3,7 @@ use Prim.Native.Nat.{◌+◌, ◌-◌}
 use mathlib.Core.Path.{subst, sym}
 use native.Mathlib.Omega.{arith}
 use borrow.Author.Rules.{rules}
-use Rattle.parts.specs.SlotsLaws.{Closing, closing-starts, closing-drops, closing-keeps, closing-ends}
+use Rattle.parts.specs.SlotsLaws.{Closing, closing_starts, closing_drops, closing_keeps, closing_ends}
 use Rattle.parts.proofs.slots.close.Statement.{statement}
 use Rattle.parts.proofs.slots.close.Tie as tie
 
@@ -14,7 +14,7 @@ abbrev decreases-loop : tie.decreases-loop
 decreases-loop slots₀ table mark held from₀ to₀ slots from to = held - from
 
 loop-holds : tie.Need-loop-init invariant-loop decreases-loop
-loop-holds c = let a = c.before.args in closing-starts a.table a.mark a.held a.slots.now (omega arith)
+loop-holds c = let a = c.before.args in closing_starts a.table a.mark a.held a.slots.now (omega arith)
 
 mul-i : tie.Need-overflow-mul-i invariant-loop decreases-loop
 mul-i c = omega arith
@@ -38,7 +38,7 @@ loop-again : tie.Need-loop-preserved invariant-loop decreases-loop
 loop-again c =
     let s1 = c.before.before.before in
     let s2 = s1.before.before in
-    let a = s2.args in closing-drops a.table a.mark a.held a.slots.now s1.loop.invariant (omega arith) c.if1.true
+    let a = s2.args in closing_drops a.table a.mark a.held a.slots.now s1.loop.invariant (omega arith) c.if1.true
 
 add_start : tie.Need-overflow-add-start invariant-loop decreases-loop
 add_start c = omega arith
@@ -90,7 +90,7 @@ loop-again-2 c =
     let s4 = s3.before.before in
     let a = s4.args in let l = s3.loop in
     subst (λ m. Closing a.table a.mark a.held a.slots.now m (l.from + 1) (l.to + 1)) (sym s1.store.ensures)
-    (closing-keeps a.table a.mark a.held a.slots.now l.invariant (omega arith) s2.if1.false
+    (closing_keeps a.table a.mark a.held a.slots.now l.invariant (omega arith) s2.if1.false
     (omega (arith, l.invariant.frame.long)))
 
 same_length : tie.Need-same-length invariant-loop decreases-loop
@@ -100,7 +100,7 @@ returns : tie.Need-returns invariant-loop decreases-loop
 returns c =
     let s1 = c.before in
     let s2 = s1.before.before in
-    let a = s2.args in closing-ends a.table a.mark a.held a.slots.now s1.loop.invariant (omega arith)
+    let a = s2.args in closing_ends a.table a.mark a.held a.slots.now s1.loop.invariant (omega arith)
 
 pub close_spec : {M : Type 1} → statement M
 close_spec =

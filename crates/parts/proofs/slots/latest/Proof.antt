@@ -1,7 +1,7 @@
 -- `latest` meets its promise. The loop's invariant: what is sought is to be found among those that are left. Assumes nothing.
 use native.Mathlib.Omega.{arith}
 use borrow.Author.Rules.{rules}
-use Rattle.parts.specs.SlotsLaws.{Sought, sought-here, sought-on, latest-end}
+use Rattle.parts.specs.SlotsLaws.{Sought, sought_here, sought_on, latest_end}
 use mathlib.Core.Path.{refl, sym, ◌∙◌}
 use Rattle.parts.proofs.slots.latest.Statement.{statement}
 use Rattle.parts.proofs.slots.latest.Tie as tie
@@ -34,7 +34,7 @@ returns : tie.Need-returns invariant-loop decreases-loop
 returns c =
     let s1 = c.before.before.before in
     let s2 = s1.before in
-    let a = s2.args in sought-here a.table a.low a.slots.now s1.loop.invariant (omega arith) c.if1.true
+    let a = s2.args in sought_here a.table a.low a.slots.now s1.loop.invariant (omega arith) c.if1.true
 
 sub-from : tie.Need-overflow-sub-from invariant-loop decreases-loop
 sub-from c = search rules
@@ -46,11 +46,11 @@ loop-again : tie.Need-loop-preserved invariant-loop decreases-loop
 loop-again c =
     let s1 = c.before.before.before in
     let s2 = s1.before in
-    let a = s2.args in sought-on a.table a.low a.slots.now s1.loop.invariant (omega arith) c.if1.false
+    let a = s2.args in sought_on a.table a.low a.slots.now s1.loop.invariant (omega arith) c.if1.false
 
 returns-2 : tie.Need-returns-2 invariant-loop decreases-loop
 returns-2 c =
-    let a = c.before.before.args in latest-end a.table a.low a.slots.now c.before.loop.from (omega arith)
+    let a = c.before.before.args in latest_end a.table a.low a.slots.now c.before.loop.from (omega arith)
     ∙ sym c.before.loop.invariant.is
 
 pub latest-spec : {M : Type 1} → statement M

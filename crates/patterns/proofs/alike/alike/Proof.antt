@@ -8,8 +8,8 @@ use native.Mathlib.Omega.{arith}
 use lib.ListN.{length}
 use borrow.Author.Tests.{not-true, not-false}
 use Rattle.walker.specs.declared.walk.Step.{Step}
-use Rattle.walker.specs.Walks.{toGo, Nexts}
-use Rattle.patterns.proofs.BesideLaws.{Beside, oneDef, one_more, none_more, beside-start, beside-more, shown, this-shown, goes_on, numbers-differ, both-ended, both-broken, contents-differ}
+use Rattle.walker.specs.Walks.{to_go, Nexts}
+use Rattle.patterns.proofs.BesideLaws.{Beside, one_def, one_more, none_more, beside_start, beside_more, shown, this_shown, goes_on, numbers_differ, both_ended, both_broken, contents_differ}
 use Rattle.patterns.proofs.alike.alike.Statement.{statement}
 use Rattle.patterns.proofs.alike.alike.Tie as tie
 
@@ -17,7 +17,7 @@ abbrev invariant-loop : tie.invariant-loop
 invariant-loop text left₀ right₀ p q v₀ w₀ defs₀ left right v w defs = Beside text p q left right v w defs
 
 abbrev decreases-loop : tie.decreases-loop
-decreases-loop text left₀ right₀ p q v₀ w₀ defs₀ left right v w defs = toGo text v
+decreases-loop text left₀ right₀ p q v₀ w₀ defs₀ left right v w defs = to_go text v
 
 inside-requires : tie.Need-inside-requires invariant-loop decreases-loop
 inside-requires c κs = tt
@@ -27,15 +27,15 @@ inside-requires-2 c κs = tt
 
 loop-holds : tie.Need-loop-init invariant-loop decreases-loop
 loop-holds c =
-    let p = c.before.before.before.requires in beside-start _ _ p.2 p.0 p.1 c.before.inside.ensures c.inside2.ensures
+    let p = c.before.before.before.requires in beside_start _ _ p.2 p.0 p.1 c.before.inside.ensures c.inside2.ensures
 
 next-requires : tie.Need-next-requires invariant-loop decreases-loop
 next-requires c κs =
-    let i = c.before.loop.invariant in (i.left-long, c.before.before.before.before.before.requires.2, i.first)
+    let i = c.before.loop.invariant in (i.left_long, c.before.before.before.before.before.requires.2, i.first)
 
 next-requires-2 : tie.Need-next-requires-2 invariant-loop decreases-loop
 next-requires-2 c κs =
-    let l = c.before.before.before in (l.loop.invariant.right-long, l.before.before.before.before.requires.2, l.loop.invariant.second)
+    let l = c.before.before.before in (l.loop.invariant.right_long, l.before.before.before.before.requires.2, l.loop.invariant.second)
 
 -- Both have gone a step.
 module _ (c : tie.After-next2 invariant-loop decreases-loop) where
@@ -60,28 +60,28 @@ module _ (c : tie.After-next2 invariant-loop decreases-loop) where
   abbrev B : Nexts text l.loop.right c.next2.new.1.0 l.loop.w b
   B = c.next2.ensures
 
-  left-long : length c.before.before.next.new.1.0 ≡ 65536
-  left-long = A.long ∙ l.loop.inv.left-long
+  left_long : length c.before.before.next.new.1.0 ≡ 65536
+  left_long = A.long ∙ l.loop.inv.left_long
 
-  right-long : length c.next2.new.1.0 ≡ 65536
-  right-long = B.long ∙ l.loop.inv.right-long
+  right_long : length c.next2.new.1.0 ≡ 65536
+  right_long = B.long ∙ l.loop.inv.right_long
 
 returns : tie.Need-returns invariant-loop decreases-loop
 returns c =
-    let s = c.before.before in (sym (l s).loop.invariant.streams ∙ numbers-differ (A s) (B s) c.if1.true, left-long s, right-long s)
+    let s = c.before.before in (sym (l s).loop.invariant.streams ∙ numbers_differ (A s) (B s) c.if1.true, left_long s, right_long s)
 
 returns-2 : tie.Need-returns-2 invariant-loop decreases-loop
 returns-2 c =
     let s = c.before.before.before in
     let e = c.if2.true in
     let f = c.before.if1.false in
-    let h = both-broken (A s) (B s) e (omega arith) in
-    ((sym (l s).loop.invariant.streams ∙ h.0, omega (arith, h.1, (l s).loop.invariant.count)), left-long s, right-long s)
+    let h = both_broken (A s) (B s) e (omega arith) in
+    ((sym (l s).loop.invariant.streams ∙ h.0, omega (arith, h.1, (l s).loop.invariant.count)), left_long s, right_long s)
 
 returns-3 : tie.Need-returns-3 invariant-loop decreases-loop
 returns-3 c =
     let s = c.before.before.before.before in
-    (sym (l s).loop.invariant.streams ∙ both-ended (A s) (B s) c.if3.true, left-long s, right-long s)
+    (sym (l s).loop.invariant.streams ∙ both_ended (A s) (B s) c.if3.true, left_long s, right_long s)
 
 -- Both have put out a symbol, of one number.
 module _ (c : tie.Else3 invariant-loop decreases-loop) where
@@ -95,15 +95,15 @@ module _ (c : tie.Else3 invariant-loop decreases-loop) where
   small = goes_on (A s) c.before.if2.false c.if3.false
 
 same-contents-requires : tie.Need-same-contents-requires invariant-loop decreases-loop
-same-contents-requires c κs = (shown (A (s c)) (small c), this-shown (A (s c)) (B (s c)) (small c) (one_number c))
+same-contents-requires c κs = (shown (A (s c)) (small c), this_shown (A (s c)) (B (s c)) (small c) (one_number c))
 
 returns-4 : tie.Need-returns-4 invariant-loop decreases-loop
 returns-4 c =
     let e = c.before.before in (
       sym (l (s e)).loop.inv.streams
-          ∙ contents-differ (A (s e)) (B (s e)) (small e) (one_number e) (sym c.before.same-contents.ensures ∙ not-true _ c.if4.true),
-      left-long (s e),
-      right-long (s e),
+          ∙ contents_differ (A (s e)) (B (s e)) (small e) (one_number e) (sym c.before.same-contents.ensures ∙ not-true _ c.if4.true),
+      left_long (s e),
+      right_long (s e),
     )
 
 add-defs : tie.Need-overflow-add-defs invariant-loop decreases-loop
@@ -117,10 +117,10 @@ loop-again c =
     let e = c.before.before.before.before.before in
     let n = (a (s e)).symbol in
     let d = (l (s e)).loop.defs in
-    let counted : c.before.before.if5.defs ≡ d + oneDef n =
+    let counted : c.before.before.if5.defs ≡ d + one_def n =
     ⊎_elim (λ w. w.1 ∙ one_more d n w.0.taken) (λ w. w.1 ∙ none_more d n w.0.left) c.before.before.if5.branch in
     rw counted
-    (beside-more (l (s e)).loop.inv (A (s e)) (B (s e)) (small e) (one_number e)
+    (beside_more (l (s e)).loop.inv (A (s e)) (B (s e)) (small e) (one_number e)
     (sym c.before.before.before.before.same-contents.ensures ∙ not-false _ c.before.before.before.if4.false))
 
 pub alike_spec : {M : Type 1} → statement M

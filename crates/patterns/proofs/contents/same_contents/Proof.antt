@@ -8,9 +8,9 @@ use borrow.Author.Rules.{rules}
 use Rattle.chars.specs.Meant.{QuotedAt, ClassAt}
 use Rattle.lexer.specs.declared.token.Token.{Token}
 use Rattle.naming.proofs.StepLaws.{spelt}
-use Rattle.naming.proofs.LeafLaws.{quoted-here, class-here}
+use Rattle.naming.proofs.LeafLaws.{quoted_here, class_here_lem}
 use Rattle.patterns.specs.Compared.{Shown}
-use Rattle.patterns.proofs.ContentsLaws.{same-plain, same-any, same-texts, same-classes, same-switches, same_names}
+use Rattle.patterns.proofs.ContentsLaws.{same_plain, same_any, same_texts, same_classes, same_switches, same_names}
 use Rattle.patterns.proofs.contents.same_contents.Statement.{statement}
 use Rattle.patterns.proofs.contents.same_contents.Tie as tie
 
@@ -19,17 +19,17 @@ module _ {text : List ℕ} {n : ℕ} {t : Token} (S : Shown text n t) where
   text_at : n ≡ 2 → QuotedAt text t.start
   text_at e =
       let T = S.taken (omega arith) in
-      let k = T.leaf (omega arith) (omega arith) in quoted-here text t (spelt T.lexed (rw k.0)) k.0 (k.1 ∙ e)
+      let k = T.leaf (omega arith) (omega arith) in quoted_here text t (spelt T.lexed (rw k.0)) k.0 (k.1 ∙ e)
 
-  class-at : n ≡ 3 → ClassAt text t.start
-  class-at e =
+  class_at : n ≡ 3 → ClassAt text t.start
+  class_at e =
       let T = S.taken (omega arith) in
-      let k = T.leaf (omega arith) (omega arith) in class-here text t (spelt T.lexed (rw k.0)) k.0 (k.1 ∙ e) T.lexed.parted
+      let k = T.leaf (omega arith) (omega arith) in class_here_lem text t (spelt T.lexed (rw k.0)) k.0 (k.1 ∙ e) T.lexed.parted
 
 returns : tie.Need-returns
 returns c =
     let s = c.before.before in
-    let a = s.args in same-plain a.text.now a.symbol a.a a.b s.requires.0 s.requires.1 (omega arith)
+    let a = s.args in same_plain a.text.now a.symbol a.a a.b s.requires.0 s.requires.1 (omega arith)
 
 same-quoted-requires : tie.Need-same-quoted-requires
 same-quoted-requires c κs =
@@ -39,7 +39,7 @@ same-quoted-requires c κs =
 same-class-requires : tie.Need-same-class-requires
 same-class-requires c κs =
     let s = c.before.before.before in
-    let e = c.match.keys3 in (class-at s.requires.0 e, class-at s.requires.1 e)
+    let e = c.match.keys3 in (class_at s.requires.0 e, class_at s.requires.1 e)
 
 same-switch-requires : tie.Need-same-switch-requires
 same-switch-requires c κs = search rules
@@ -50,40 +50,40 @@ same-name-requires c κs = search rules
 returns-2 : tie.Need-returns-2
 returns-2 c =
     let s = c.before.before.before in
-    let a = s.args in same-any a.text.now a.symbol a.a a.b s.requires.0 s.requires.1 c.match.keys1
+    let a = s.args in same_any a.text.now a.symbol a.a a.b s.requires.0 s.requires.1 c.match.keys1
 
 returns-3 : tie.Need-returns-3
 returns-3 c =
     let s = c.before.before.before.before in
     let a = s.args in
-    c.same-quoted.ensures ∙ same-texts a.text.now a.symbol a.a a.b s.requires.0 s.requires.1 c.before.match.keys2
+    c.same-quoted.ensures ∙ same_texts a.text.now a.symbol a.a a.b s.requires.0 s.requires.1 c.before.match.keys2
 
 returns-4 : tie.Need-returns-4
 returns-4 c =
     let s = c.before.before.before.before in
     let a = s.args in
-    c.same_Class.ensures ∙ same-classes a.text.now a.symbol a.a a.b s.requires.0 s.requires.1 c.before.match.keys3
+    c.same_Class.ensures ∙ same_classes a.text.now a.symbol a.a a.b s.requires.0 s.requires.1 c.before.match.keys3
 
 returns-5 : tie.Need-returns-5
 returns-5 c =
     let s = c.before.before.before.before in
     let a = s.args in
-    c.same_switch.ensures ∙ same-switches a.text.now a.symbol a.a a.b s.requires.0 s.requires.1 c.before.match.keys4
+    c.same_switch.ensures ∙ same_switches a.text.now a.symbol a.a a.b s.requires.0 s.requires.1 c.before.match.keys4
 
 returns-6 : tie.Need-returns-6
 returns-6 c =
     let s = c.before.before.before.before in
     let a = s.args in
     let r = c.before.match.rest in
-    let no-on : a.symbol ≡ 13 → ⊥ = λ e. r.1 (inr e) in
+    let no_on : a.symbol ≡ 13 → ⊥ = λ e. r.1 (inr e) in
     c.same_name.ensures
     ∙ same_names a.text.now a.symbol a.a a.b s.requires.0 s.requires.1
     (record {
       low = omega (arith, c.before.before.if1.false);
-      no-any = r.0.0.0.1;
+      no_any = r.0.0.0.1;
       no_text = r.0.0.1;
-      no-class = r.0.1;
-      no-if = λ e. r.1 (inl e);
+      no_class = r.0.1;
+      no_if = λ e. r.1 (inl e);
     })
 
 pub same-contents-spec : {M : Type 1} → statement M

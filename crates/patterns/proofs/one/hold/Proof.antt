@@ -9,7 +9,7 @@ use borrow.Author.Rules.{rules}
 use Rattle.index.specs.Listed.{Keeps}
 use Rattle.lexer.specs.Names.{NameEnds}
 use Rattle.patterns.specs.Compared.{Compares}
-use Rattle.patterns.proofs.HoldLaws.{room, over-one, first_one, alike-one, unlike-one}
+use Rattle.patterns.proofs.HoldLaws.{room, over_one, first_one, alike_one, unlike_one}
 use Rattle.patterns.proofs.one.hold.Statement.{statement}
 use Rattle.patterns.proofs.one.hold.Tie as tie
 
@@ -17,14 +17,14 @@ sub-t13 : tie.Need-overflow-sub-t13
 sub-t13 c = search rules
 
 returns : tie.Need-returns
-returns c = let s = c.before.before.before in (over-one s.requires.2 s.requires.3 s.requires.4 c.if1.true, s.requires.0, s.requires.1)
+returns c = let s = c.before.before.before in (over_one s.requires.2 s.requires.3 s.requires.4 c.if1.true, s.requires.0, s.requires.1)
 
 keep-requires : tie.Need-keep-requires
 keep-requires c κs =
     let s = c.before.before.before.before in
     let d = s.requires.3 in
     let k = d.def.0 in
-    (room s.requires.2 s.requires.3 s.requires.4, omega (arith, d.lexed.name-inside (omega arith) (omega arith), s.requires.2), s.requires.4.ascending)
+    (room s.requires.2 s.requires.3 s.requires.4, omega (arith, d.lexed.name_inside (omega arith) (omega arith), s.requires.2), s.requires.4.ascending)
 
 same_length : tie.Need-same-length
 same_length c = search rules
@@ -35,8 +35,8 @@ returns-2 c =
     (first_one s.requires.2 s.requires.3 s.requires.4 c.before.before.before.before.before.if1.false c.before.before.before.keep.ensures c.if2.true, s.requires.0, s.requires.1)
 
 -- Its table is known already: the index is that of a place that is kept.
-in-range : (c : tie.Else2) → c.before.before.before.keep.result.index < length c.before.before.before.keep.new.1.0
-in-range c =
+in_range_lem : (c : tie.Else2) → c.before.before.before.keep.result.index < length c.before.before.before.keep.new.1.0
+in_range_lem c =
     let s = c.before.before.before.before.before.before.before.before in
     let k = c.before.before.before.keep.ensures in
     omega (arith, k.inside, k.most, k.long, room s.requires.2 s.requires.3 s.requires.4)
@@ -44,10 +44,10 @@ in-range c =
 mul_wide : tie.Need-overflow-mul-wide
 mul_wide c =
     let s = c.before.before.before.before.before.before.before.before in
-    omega (arith, in-range c, c.before.before.before.keep.ensures.long, s.requires.4.long)
+    omega (arith, in_range_lem c, c.before.before.before.keep.ensures.long, s.requires.4.long)
 
 slice-read-wide : tie.Need-slice-read-wide
-slice-read-wide c = in-range c.before
+slice-read-wide c = in_range_lem c.before
 
 -- The two were compared.
 module _ (c : tie.After-alike) where
@@ -63,8 +63,8 @@ module _ (c : tie.After-alike) where
   abbrev now : List ℕ
   now = else.before.before.before.keep.last.1.0
 
-  not-over : start.args.over ≤ 0
-  not-over = else.before.before.before.before.before.if1.left
+  not_over : start.args.over ≤ 0
+  not_over = else.before.before.before.before.before.if1.left
 
   kept : Keeps text start.args.latest.now start.args.count start.args.t.name now else.before.before.before.keep.result
   kept = else.before.before.before.keep.ensures
@@ -97,7 +97,7 @@ same-length-2 c = search rules
 returns-3 : tie.Need-returns-3
 returns-3 c =
     let d = c.before.before in (
-      unlike-one (start d).requires.2 (start d).requires.3 (start d).requires.4 (not-over d) (kept d) (old d) (named d)
+      unlike_one (start d).requires.2 (start d).requires.3 (start d).requires.4 (not_over d) (kept d) (old d) (named d)
           (subst (Compares _ _) c.enum_told.given.1 d.alike.ensures.0),
       d.alike.ensures.1,
       d.alike.ensures.2,
@@ -108,13 +108,13 @@ cast-latest : tie.Need-overflow-cast-latest
 cast-latest c =
     let s = start c.before.before.before.before in
     let d = s.pre.3 in
-    let k = d.def.0 in omega (arith, d.lexed.name-inside (omega arith) (omega arith), s.pre.2)
+    let k = d.def.0 in omega (arith, d.lexed.name_inside (omega arith) (omega arith), s.pre.2)
 
 mul-latest : tie.Need-overflow-mul-latest
 mul-latest c = mul_wide (else c.before.before.before.before)
 
 slice-write-latest : tie.Need-slice-write-latest
-slice-write-latest c = in-range (else c.before.before.before.before)
+slice-write-latest c = in_range_lem (else c.before.before.before.before)
 
 same-length-3 : tie.Need-same-length-3
 same-length-3 c = search rules
@@ -122,7 +122,7 @@ same-length-3 c = search rules
 returns-4 : tie.Need-returns-4
 returns-4 c =
     let d = c.before.before.before.before in (
-      alike-one (start d).requires.2 (start d).requires.3 (start d).requires.4 (not-over d) (kept d) (old d) (named d) c.before.before.defs.given.0.0
+      alike_one (start d).requires.2 (start d).requires.3 (start d).requires.4 (not_over d) (kept d) (old d) (named d) c.before.before.defs.given.0.0
           (subst (Compares _ _) c.before.before.defs.given.1 d.alike.ensures.0),
       d.alike.ensures.1,
       d.alike.ensures.2,

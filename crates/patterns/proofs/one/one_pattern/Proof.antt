@@ -9,20 +9,20 @@ use borrow.Author.Rules.{rules}
 use Rattle.notation.specs.Token.{Lexeme}
 use Rattle.lexer.specs.declared.token.Token.{Token}
 use Rattle.lexer.specs.Meant.{Lexed}
-use Rattle.patterns.specs.Passed.{defsOf, Passes, Holds}
-use Rattle.patterns.proofs.OneLaws.{both-numbers, end-left, bad-left, def-left, other-left, passes-start, passes-end, at-fault}
+use Rattle.patterns.specs.Passed.{defs_of, Passes, Holds}
+use Rattle.patterns.proofs.OneLaws.{both_numbers, end_left, bad_left, def_left, other_left, passes_start, passes_end, at_fault}
 use Rattle.patterns.proofs.one.one_pattern.Statement.{statement}
 use Rattle.patterns.proofs.one.one_pattern.Tie as tie
 
 abbrev invariant-loop : tie.invariant-loop
 invariant-loop text latest₀ left₀ right₀ count₀ over₀ at₀ latest left right count over at =
-    (at ≤ length text) × Passes text latest count over (defsOf (drop at text)) × (length left ≡ 65536) × (length right ≡ 65536)
+    (at ≤ length text) × Passes text latest count over (defs_of (drop at text)) × (length left ≡ 65536) × (length right ≡ 65536)
 
 abbrev decreases-loop : tie.decreases-loop
 decreases-loop text latest₀ left₀ right₀ count₀ over₀ at₀ latest left right count over at = length text - at
 
 loop-holds : tie.Need-loop-init invariant-loop decreases-loop
-loop-holds c = (omega arith, passes-start c.before.args.text.now _ (search rules), search rules, search rules)
+loop-holds c = (omega arith, passes_start c.before.args.text.now _ (search rules), search rules, search rules)
 
 token-from-requires : tie.Need-token-from-requires invariant-loop decreases-loop
 token-from-requires c κs = tt
@@ -44,14 +44,14 @@ module _ (c : tie.After-token-from invariant-loop decreases-loop) where
   lexed : Lexed text here.loop.at t
   lexed = c.token-from.ensures
 
-  passes : {rest : List Lexeme} → defsOf (drop here.loop.at text) ≡ rest → Passes text here.loop.latest here.loop.count here.loop.over rest
+  passes : {rest : List Lexeme} → defs_of (drop here.loop.at text) ≡ rest → Passes text here.loop.latest here.loop.count here.loop.over rest
   passes e = subst (Passes text here.loop.latest here.loop.count here.loop.over) e here.loop.inv.1
 
 returns : tie.Need-returns invariant-loop decreases-loop
-returns c = let s = c.before.before in passes-end (passes s (end-left (lexed s) c.if1.true))
+returns c = let s = c.before.before in passes_end (passes s (end_left (lexed s) c.if1.true))
 
 returns-2 : tie.Need-returns-2 invariant-loop decreases-loop
-returns-2 c = let s = c.before.before.before.before in passes-end (passes s (bad-left (lexed s) c.if2.true))
+returns-2 c = let s = c.before.before.before.before in passes_end (passes s (bad_left (lexed s) c.if2.true))
 
 is-def-requires : tie.Need-is-def-requires invariant-loop decreases-loop
 is-def-requires c κs = tt
@@ -82,12 +82,12 @@ hold-requires : tie.Need-hold-requires invariant-loop decreases-loop
 hold-requires c κs =
     let e = c.before.before.before.before.before in
     let i = (here (s e)).loop.inv in
-    let d = sym c.before.before.before.before.is-def.ensures ∙ c.before.before.before.if3.true in (
+    let d = sym c.before.before.before.before.is_def_lem.ensures ∙ c.before.before.before.if3.true in (
       i.2,
       i.3,
       (start (s e)).pre,
-      record { from = (here (s e)).loop.at; lexed = lexed (s e); def = both-numbers (t (s e)) d },
-      passes (s e) (def-left (lexed (s e)) (no_end e) (no_stop e) d),
+      record { from = (here (s e)).loop.at; lexed = lexed (s e); def = both_numbers (t (s e)) d },
+      passes (s e) (def_left (lexed (s e)) (no_end e) (no_stop e) d),
     )
 
 enum_told : tie.Need-enum-told invariant-loop decreases-loop
@@ -96,7 +96,7 @@ enum_told c = search rules
 returns-3 : tie.Need-returns-3 invariant-loop decreases-loop
 returns-3 c =
     let e = c.before.before.before.before.before.before.before.before.before in
-    at-fault (text (s e)) (t (s e)) (lexed (s e)).inside
+    at_fault (text (s e)) (t (s e)) (lexed (s e)).inside
     (subst (Holds (text (s e)) c.before.before.before.hold.new.1.0 (t (s e))) c.enum_told.given.1 c.before.before.before.hold.ensures.0)
 
 enum-known-tables : tie.Need-enum-known-tables invariant-loop decreases-loop
@@ -122,7 +122,7 @@ loop-again-2 : tie.Need-loop-preserved-2 invariant-loop decreases-loop
 loop-again-2 c =
     let e = c.before.before in
     let i = (here (s e)).loop.inv in
-    (within e, passes (s e) (other-left (lexed (s e)) (no_end e) (no_stop e) (sym c.before.is-def.ensures ∙ c.if3.false)), i.2, i.3)
+    (within e, passes (s e) (other_left (lexed (s e)) (no_end e) (no_stop e) (sym c.before.is_def_lem.ensures ∙ c.if3.false)), i.2, i.3)
 
 pub one-pattern-spec : {M : Type 1} → statement M
 one-pattern-spec =

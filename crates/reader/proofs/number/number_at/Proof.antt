@@ -2,13 +2,13 @@
 use Prim.Native.Nat.{◌+◌}
 use mathlib.Core.Path.{◌∙◌}
 use native.Mathlib.Omega.{arith}
-use Rattle.reader.proofs.Groups.{first-cut, first_ends, first_more}
+use Rattle.reader.proofs.Groups.{first_cut, first_ends, first_more}
 use borrow.Author.Rules.{rules}
 use Rattle.reader.proofs.number.number_at.Statement.{statement}
 use Rattle.reader.proofs.number.number_at.Tie as tie
 
 returns : tie.Need-returns
-returns c = let a = c.before.before.args in first-cut a.image.now a.at 0 a.at 0 (omega arith)
+returns c = let a = c.before.before.args in first_cut a.image.now a.at 0 a.at 0 (omega arith)
 
 shared-slice-read-wide : tie.Need-shared-slice-read-wide
 shared-slice-read-wide c = search rules

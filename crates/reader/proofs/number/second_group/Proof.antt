@@ -2,7 +2,7 @@
 use Prim.Native.Nat.{◌+◌}
 use mathlib.Core.Path.{◌∙◌}
 use native.Mathlib.Omega.{arith}
-use Rattle.reader.proofs.Groups.{second-cut, second-zero, second-ends, second_more}
+use Rattle.reader.proofs.Groups.{second_cut, second_zero, second_ends, second_more}
 use borrow.Author.Rules.{rules}
 use Rattle.reader.proofs.number.second_group.Statement.{statement}
 use Rattle.reader.proofs.number.second_group.Tie as tie
@@ -11,7 +11,7 @@ add-if1 : tie.Need-overflow-add-if1
 add-if1 c = search rules
 
 returns : tie.Need-returns
-returns c = let a = c.before.before.args in second-cut a.image.now a.at a.low (a.at + 1) 0 (omega arith)
+returns c = let a = c.before.before.args in second_cut a.image.now a.at a.low (a.at + 1) 0 (omega arith)
 
 add_wide : tie.Need-overflow-add-wide
 add_wide c = search rules
@@ -27,7 +27,7 @@ returns-2 c =
     let s1 = c.before in
     let s2 = s1.before.before.before.before in
     let a = s2.args in let b = s1.wide in
-    second-zero a.image.now a.at a.low (a.at + 1) b.result b.ensures.0 (omega arith) (omega arith)
+    second_zero a.image.now a.at a.low (a.at + 1) b.result b.ensures.0 (omega arith) (omega arith)
 
 mul-t12 : tie.Need-overflow-mul-t12
 mul-t12 c = search rules
@@ -43,7 +43,7 @@ returns-3 c =
     let s1 = c.before.before in
     let s2 = s1.before.before.before.before in
     let a = s2.args in let b = s1.wide in
-    second-ends a.image.now a.at a.low (a.at + 1) b.result b.ensures.0 (omega arith) (λ z. omega arith) (omega arith)
+    second_ends a.image.now a.at a.low (a.at + 1) b.result b.ensures.0 (omega arith) (λ z. omega arith) (omega arith)
 
 mul-third-group : tie.Need-overflow-mul-third-group
 mul-third-group c = search rules

@@ -1,7 +1,7 @@
 -- `third_group` meets its promise: by the third byte, if there is one. Assumes nothing.
 use Prim.Native.Nat.{◌+◌}
 use native.Mathlib.Omega.{arith}
-use Rattle.reader.proofs.Groups.{third-cut, third-zero, third-ends, third-more}
+use Rattle.reader.proofs.Groups.{third_cut, third_zero, third_ends, third_more}
 use borrow.Author.Rules.{rules}
 use Rattle.reader.proofs.number.third_group.Statement.{statement}
 use Rattle.reader.proofs.number.third_group.Tie as tie
@@ -10,7 +10,7 @@ add-if1 : tie.Need-overflow-add-if1
 add-if1 c = search rules
 
 returns : tie.Need-returns
-returns c = let a = c.before.before.args in third-cut a.image.now a.at a.low (a.at + 2) 0 (omega arith)
+returns c = let a = c.before.before.args in third_cut a.image.now a.at a.low (a.at + 2) 0 (omega arith)
 
 add_wide : tie.Need-overflow-add-wide
 add_wide c = search rules
@@ -26,7 +26,7 @@ returns-2 c =
     let s1 = c.before in
     let s2 = s1.before.before.before.before in
     let a = s2.args in let b = s1.wide in
-    third-zero a.image.now a.at a.low (a.at + 2) b.result b.ensures.0 (omega arith) (omega arith)
+    third_zero a.image.now a.at a.low (a.at + 2) b.result b.ensures.0 (omega arith) (omega arith)
 
 mul-t12 : tie.Need-overflow-mul-t12
 mul-t12 c = search rules
@@ -42,14 +42,14 @@ returns-3 c =
     let s1 = c.before.before in
     let s2 = s1.before.before.before.before in
     let a = s2.args in let b = s1.wide in
-    third-ends a.image.now a.at a.low (a.at + 2) b.result b.ensures.0 (omega arith) (λ z. omega arith) (omega arith)
+    third_ends a.image.now a.at a.low (a.at + 2) b.result b.ensures.0 (omega arith) (λ z. omega arith) (omega arith)
 
 returns-4 : tie.Need-returns-4
 returns-4 c =
     let s1 = c.before.before in
     let s2 = s1.before.before.before.before in
     let a = s2.args in let b = s1.wide in
-    third-more a.image.now a.at a.low (a.at + 2) b.result b.ensures.0 (omega arith) (λ z. omega arith) (omega arith)
+    third_more a.image.now a.at a.low (a.at + 2) b.result b.ensures.0 (omega arith) (λ z. omega arith) (omega arith)
 
 pub third-group-spec : {M : Type 1} → statement M
 third-group-spec =

@@ -36,7 +36,7 @@ use denote.Triple.Walked.{says, Stays, stay_none, stay_none_slice, walk_of, Goes
 use denote.Exit.{yes}
 use Rattle.reader.specs.declared.reader.Reader.{Reader}
 use Rattle.reader.specs.contracts.reader.Reader as held
-use Rattle.reader.proofs.reader.Reader.TheLaws as held-laws
+use Rattle.reader.proofs.reader.Reader.TheLaws as held_laws
 use Rattle.reader.specs.contracts.reader.over.Key.{name as #over}
 use Rattle.reader.specs.contracts.reader.over as over
 use Rattle.reader.proofs.reader.over.Statement as stated
@@ -68,13 +68,13 @@ module _ {M : Type 1} {𝓤 : Ura M} (𝓛 : Logic 𝓤) (mem : Memory → SProp
   abbrev Own : Fml
   Own = (ShrSlice (named 0) κ u8).own_val s (v ∷ [])
 
-  exits : ent 𝓤 (on_entry 𝓛 over.signature (κ, tt) (q, tt) (s, (n, tt)) passed) (Post (held-laws.lowered made))
+  exits : ent 𝓤 (on_entry 𝓛 over.signature (κ, tt) (q, tt) (s, (n, tt)) passed) (Post (held_laws.lowered made))
   exits =
       qed 𝓛 ((‵ (flft κ q) ⊛ ‵ ftrue) ∷ ‵ (owns (ShrSlice (named 0) κ u8 ∷ usize ∷ []) (s, (n, tt)) passed) ∷ []) ∵
-      suffices ! _ (ends_at 𝓛 over.ended stayed (over.clauses 𝓛 mem run) (((κ, tt), (q, tt), tt, (s, (n, tt)), passed), tt) (held-laws.lowered made) made (tt, (tt, tt)) (tt, (tt, tt))) $ says ! (refl, refl) $
+      suffices ! _ (ends_at 𝓛 over.ended stayed (over.clauses 𝓛 mem run) (((κ, tt), (q, tt), tt, (s, (n, tt)), passed), tt) (held_laws.lowered made) made (tt, (tt, tt)) (tt, (tt, tt))) $ says ! (refl, refl) $
       frame ! $ fsplit ! $ use1 𝓛 (‵ Own ⊛ ‵ Own) ((shr_slice_copy 𝓛 (named 0) κ u8).twice s (v ∷ [])) $ split ! $ move ! (0 ∷ 2 ∷ []) $ fjoin ! $ frame ! $
       -- [what image owns]
-      nothing ! $ owned ! usize (Is usize) (uint_Makes 𝓛 w64) n _ (refl, fits) $ fjoin ! $ move ! (1 ∷ 0 ∷ []) $ fjoin ! $ by ! (own_shut 𝓛 (held.the_type life) (held-laws.the_laws life) (s, (n, tt)))
+      nothing ! $ owned ! usize (Is usize) (uint_Makes 𝓛 w64) n _ (refl, fits) $ fjoin ! $ move ! (1 ∷ 0 ∷ []) $ fjoin ! $ by ! (own_shut 𝓛 (held.the_type life) (held_laws.the_laws life) (s, (n, tt)))
 
   module _ (C : Calls 𝓤 H) (Λ : Loops 𝓤 H) where
     walk : Is (ShrSlice (named 0) κ u8) s (v ∷ []) → ent 𝓤 (on_entry 𝓛 over.signature (κ, tt) (q, tt) (s, (n, tt)) passed) (WpFn 𝓤 H C Λ code.function (v ∷ vint w64 n ∷ []) Post)
@@ -89,15 +89,15 @@ module _ {M : Type 1} {𝓤 : Ura M} (𝓛 : Logic 𝓤) (mem : Memory → SProp
 module _ {M : Type 1} {𝓤 : Ura M} (𝓛 : Logic 𝓤) (mem : Memory → SProp 𝓤) (run : Routine → Fun 𝓤) where
   open 𝓛 use {H}
 
-  over-walks : (C : Calls 𝓤 H) (Λ : Loops 𝓤 H) → Walks 𝓛 over.ended stayed (WpFn 𝓤 H C Λ code.function) (over.clauses 𝓛 mem run)
-  over-walks C Λ = walked 𝓛 over.ended stayed (over.clauses 𝓛 mem run) (WpFn 𝓤 H C Λ code.function) (λ κs. (shr_slice_vals, (uint_vals w64, tt))) (λ κs. (shr_slice_Tells (named 0) κs.0 u8, (uint_Tells w64, tt)))
+  over_walks : (C : Calls 𝓤 H) (Λ : Loops 𝓤 H) → Walks 𝓛 over.ended stayed (WpFn 𝓤 H C Λ code.function) (over.clauses 𝓛 mem run)
+  over_walks C Λ = walked 𝓛 over.ended stayed (over.clauses 𝓛 mem run) (WpFn 𝓤 H C Λ code.function) (λ κs. (shr_slice_vals, (uint_vals w64, tt))) (λ κs. (shr_slice_Tells (named 0) κs.0 u8, (uint_Tells w64, tt)))
       (λ κs qs bounds a g are. via 𝓤 _ (fst∗ 𝓤 _ (emp 𝓤)) (walk 𝓛 mem run κs.0 qs.0 a.0 a.1.0 are.1.0.1 C Λ are.0))
 
 over-meets : {M : Type 1} {𝓤 : Ura M} (𝓛 : Logic 𝓤) → (mem : Memory → SProp 𝓤) (run : Routine → Fun 𝓤) (𝓣 : Tables 𝓤 𝓛.H)
     → Meets 𝓛 over.signature (WpFn 𝓤 𝓛.H 𝓣.C 𝓣.Λ code.function) (over.spec 𝓛 mem run)
 over-meets {𝓤 = 𝓤} 𝓛 mem run 𝓣 =
     walk_Meets 𝓛 over.ended stayed (Goes-none_slice 𝓛 1 (0 ∷ []) tt (plain (λ _. u8)) yes, (Goes-none 𝓛 1 (λ _. usize) yes (λ κs x f. refl), tt)) (over.clauses 𝓛 mem run)
-    (WpFn 𝓤 𝓛.H 𝓣.C 𝓣.Λ code.function) (WpFn-mono 𝓤 𝓛.H 𝓛.laws 𝓣 code.function) (over-walks 𝓛 mem run 𝓣.C 𝓣.Λ)
+    (WpFn 𝓤 𝓛.H 𝓣.C 𝓣.Λ code.function) (WpFn-mono 𝓤 𝓛.H 𝓛.laws 𝓣 code.function) (over_walks 𝓛 mem run 𝓣.C 𝓣.Λ)
 
 pub over-spec : {M : Type 1} → stated.statement M
 unfolding code.routine tables_of

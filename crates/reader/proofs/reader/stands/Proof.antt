@@ -33,7 +33,7 @@ use denote.Triple.Walked.{says, Stays, stay_none, walk_of, Goes-none, Walks, end
 use denote.Exit.{yes}
 use Rattle.reader.specs.declared.reader.Reader.{Reader}
 use Rattle.reader.specs.contracts.reader.Reader as held
-use Rattle.reader.proofs.reader.Reader.TheLaws as held-laws
+use Rattle.reader.proofs.reader.Reader.TheLaws as held_laws
 use Rattle.reader.specs.contracts.reader.stands.Key.{name as #stands}
 use Rattle.reader.specs.contracts.reader.stands as stands
 use Rattle.reader.proofs.reader.stands.Statement as stated
@@ -50,7 +50,7 @@ module _ {M : Type 1} {𝓤 : Ura M} (𝓛 : Logic 𝓤) (mem : Memory → SProp
   open 𝓛 use {H}
 
   abbrev v : Val
-  v = held-laws.lowered r
+  v = held_laws.lowered r
 
   abbrev Post : Val → SProp 𝓤
   Post = (walk_of 𝓛 stands.ended stayed (stands.clauses 𝓛 mem run)).post (((κ, tt), (q, tt), tt, (r, tt), (v ∷ [], tt)), tt)
@@ -67,7 +67,7 @@ module _ {M : Type 1} {𝓤 : Ura M} (𝓛 : Logic 𝓤) (mem : Memory → SProp
         let life = named_lft 1 0 tt (κ, tt) in
         let fits = is.1.1.1.0.1 in
         qed 𝓛 ((‵ (flft κ q) ⊛ ‵ ftrue) ∷ ‵ (owns (row (κ, tt) ∷ []) (r, tt) (v ∷ [], tt)) ∷ []) ∵ enter ! C Λ code.function (v ∷ []) _ $
-        alloc1 ! (λ l₀. alloc1 ! (λ l₁. alloc0 ! $ params1 ! $ pass1 ! (init ! 0 refl ((struct.lawful (held.the_type life) (held-laws.the_laws life) 𝓛).typed r (v ∷ []) is).0) $ pass0 ! $
+        alloc1 ! (λ l₀. alloc1 ! (λ l₁. alloc0 ! $ params1 ! $ pass1 ! (init ! 0 refl ((struct.lawful (held.the_type life) (held_laws.the_laws life) 𝓛).typed r (v ∷ []) is).0) $ pass0 ! $
         -- [_1; …; room for _0; …; the token; what r owns]
         assigns ! (of_opd ! (load ! (from ! (fld ! refl (stop !))) (look_in ! 0 (sub ! 1 refl (whole !))))) (from ! (stop !)) (init ! 2 refl (tt, record { fits = fits })) $
         returns ! (look ! 2 refl) $ forget ! 0 refl $ forget ! 2 refl $ move ! (2 ∷ 3 ∷ []) $ free1 ! $ free1 ! $ free0 ! $ by ! (exits fits)))
@@ -75,16 +75,16 @@ module _ {M : Type 1} {𝓤 : Ura M} (𝓛 : Logic 𝓤) (mem : Memory → SProp
 module _ {M : Type 1} {𝓤 : Ura M} (𝓛 : Logic 𝓤) (mem : Memory → SProp 𝓤) (run : Routine → Fun 𝓤) where
   open 𝓛 use {H}
 
-  stands-walks : (C : Calls 𝓤 H) (Λ : Loops 𝓤 H) → Walks 𝓛 stands.ended stayed (WpFn 𝓤 H C Λ code.function) (stands.clauses 𝓛 mem run)
-  stands-walks C Λ = walked 𝓛 stands.ended stayed (stands.clauses 𝓛 mem run) (WpFn 𝓤 H C Λ code.function)
-      (λ κs. (struct.vals (held.the_type (named_lft 1 0 tt κs)) (held-laws.the_laws (named_lft 1 0 tt κs)), tt)) (λ κs. (struct.tells (held.the_type (named_lft 1 0 tt κs)) (held-laws.the_laws (named_lft 1 0 tt κs)), tt))
+  stands_walks : (C : Calls 𝓤 H) (Λ : Loops 𝓤 H) → Walks 𝓛 stands.ended stayed (WpFn 𝓤 H C Λ code.function) (stands.clauses 𝓛 mem run)
+  stands_walks C Λ = walked 𝓛 stands.ended stayed (stands.clauses 𝓛 mem run) (WpFn 𝓤 H C Λ code.function)
+      (λ κs. (struct.vals (held.the_type (named_lft 1 0 tt κs)) (held_laws.the_laws (named_lft 1 0 tt κs)), tt)) (λ κs. (struct.tells (held.the_type (named_lft 1 0 tt κs)) (held_laws.the_laws (named_lft 1 0 tt κs)), tt))
       (λ κs qs bounds a g are. via 𝓤 _ (fst∗ 𝓤 _ (emp 𝓤)) (walk 𝓛 mem run κs.0 qs.0 a.0 C Λ are.0))
 
 stands-meets : {M : Type 1} {𝓤 : Ura M} (𝓛 : Logic 𝓤) → (mem : Memory → SProp 𝓤) (run : Routine → Fun 𝓤) (𝓣 : Tables 𝓤 𝓛.H)
     → Meets 𝓛 stands.signature (WpFn 𝓤 𝓛.H 𝓣.C 𝓣.Λ code.function) (stands.spec 𝓛 mem run)
 stands-meets {𝓤 = 𝓤} 𝓛 mem run 𝓣 =
     walk_Meets 𝓛 stands.ended stayed (Goes-none 𝓛 1 row yes (λ κs x f. refl), tt) (stands.clauses 𝓛 mem run)
-    (WpFn 𝓤 𝓛.H 𝓣.C 𝓣.Λ code.function) (WpFn-mono 𝓤 𝓛.H 𝓛.laws 𝓣 code.function) (stands-walks 𝓛 mem run 𝓣.C 𝓣.Λ)
+    (WpFn 𝓤 𝓛.H 𝓣.C 𝓣.Λ code.function) (WpFn-mono 𝓤 𝓛.H 𝓛.laws 𝓣 code.function) (stands_walks 𝓛 mem run 𝓣.C 𝓣.Λ)
 
 pub stands-spec : {M : Type 1} → stated.statement M
 unfolding code.routine tables_of

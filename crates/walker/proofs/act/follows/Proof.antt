@@ -2,15 +2,15 @@
 use mathlib.Core.Path.{sym}
 use native.Mathlib.Omega.{arith}
 use borrow.Author.Rules.{rules}
-use Rattle.walker.proofs.ActLaws.{closes-end, suffix-taken, bad-breaks, pops, slash-taken, item-begins}
+use Rattle.walker.proofs.ActLaws.{closes_end, suffix_taken, bad_breaks, pops, slash_taken, item_begins}
 use Rattle.walker.proofs.act.follows.Statement.{statement}
 use Rattle.walker.proofs.act.follows.Tie as tie
 
 returns : tie.Need-returns
-returns c = let a = c.before.args in suffix-taken a.height a.stack.now (omega arith)
+returns c = let a = c.before.args in suffix_taken a.height a.stack.now (omega arith)
 
 returns-2 : tie.Need-returns-2
-returns-2 c = let a = c.before.before.args in bad-breaks a.height a.stack.now (omega arith)
+returns-2 c = let a = c.before.before.args in bad_breaks a.height a.stack.now (omega arith)
 
 last-open-requires : tie.Need-last-open-requires
 last-open-requires c κs = search rules
@@ -25,7 +25,7 @@ returns-3 c =
 
 ends-requires : tie.Need-ends-requires
 ends-requires c κs =
-    omega (arith, c.before.before.closes-from.ensures, closes-end c.before.before.before.before.before.before.before.args.kind (omega arith))
+    omega (arith, c.before.before.closes-from.ensures, closes_end c.before.before.before.before.before.before.before.args.kind (omega arith))
 
 returns-4 : tie.Need-returns-4
 returns-4 c =
@@ -41,7 +41,7 @@ add-t10 c = search rules
 returns-5 : tie.Need-returns-5
 returns-5 c =
     let a = c.before.before.before.before.before.before.before.before.args in
-    slash-taken a.height a.stack.now (omega arith) (omega arith)
+    slash_taken a.height a.stack.now (omega arith) (omega arith)
     (omega (arith, c.before.before.before.closes-from.ensures, c.before.before.before.before.last-open.ensures))
 
 element-write-stack-2 : tie.Need-element-write-stack-2
@@ -56,7 +56,7 @@ wants-requires c κs = search rules
 returns-6 : tie.Need-returns-6
 returns-6 c =
     let a = c.before.before.before.before.before.before.before.before.before.before.args in
-    item-begins a.height a.stack.now (omega arith) (omega arith) (omega arith)
+    item_begins a.height a.stack.now (omega arith) (omega arith) (omega arith)
     (omega (arith, c.before.before.before.before.before.closes-from.ensures, c.before.before.before.before.before.before.last-open.ensures)) c.wants.result c.wants.ensures
 
 pub follows-spec : {M : Type 1} → statement M

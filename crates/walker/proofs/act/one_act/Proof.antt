@@ -1,7 +1,7 @@
 -- `one_act` meets its promise: by the mode. Assumes nothing.
 use native.Mathlib.Omega.{arith}
 use borrow.Author.Rules.{rules}
-use Rattle.walker.proofs.ActLaws.{first-production, no-production}
+use Rattle.walker.proofs.ActLaws.{first_production, no_production}
 use Rattle.walker.proofs.act.one_act.Statement.{statement}
 use Rattle.walker.proofs.act.one_act.Tie as tie
 
@@ -18,10 +18,10 @@ returns-2 : tie.Need-returns-2
 returns-2 c = rw c.before.before.if2.true c.wants.ensures
 
 returns-3 : tie.Need-returns-3
-returns-3 c = let a = c.before.before.before.args in first-production a.height a.mode a.stack.now (omega arith) (omega arith)
+returns-3 c = let a = c.before.before.before.args in first_production a.height a.mode a.stack.now (omega arith) (omega arith)
 
 returns-4 : tie.Need-returns-4
-returns-4 c = let a = c.before.before.before.args in no-production a.height a.mode a.stack.now (omega arith) (λ z. omega arith)
+returns-4 c = let a = c.before.before.before.args in no_production a.height a.mode a.stack.now (omega arith) (λ z. omega arith)
 
 pub one-act-spec : {M : Type 1} → statement M
 one-act-spec =

@@ -5,7 +5,7 @@ use native.Mathlib.Omega.{arith}
 use borrow.Author.Rules.{rules}
 use borrow.Author.Tests.{eqb-true}
 use Rattle.notation.specs.LexicalText.{no_way}
-use Rattle.walker.proofs.ActLaws.{latest-some}
+use Rattle.walker.proofs.ActLaws.{latest_some}
 use Rattle.walker.proofs.act.shuts.Statement.{statement}
 use Rattle.walker.proofs.act.shuts.Tie as tie
 
@@ -24,7 +24,7 @@ element-copy-out-result c = search rules
 returns-3 : tie.Need-returns-3
 returns-3 c e =
     let a = c.before.before.before.args in
-    (omega arith, omega arith, sym (latest-some a.height a.stack.now (omega arith)) ∙ eqb-true _ _ e)
+    (omega arith, omega arith, sym (latest_some a.height a.stack.now (omega arith)) ∙ eqb-true _ _ e)
 
 pub shuts-spec : {M : Type 1} → statement M
 shuts-spec = tie.close (tie.spec returns returns-2 sub-result element-copy-out-result returns-3)

@@ -1,7 +1,7 @@
 -- `wants` meets its promise: by the token's kind. Assumes nothing.
 use native.Mathlib.Omega.{arith}
 use borrow.Author.Rules.{rules}
-use Rattle.walker.proofs.ActLaws.{leaf-taken, pushes, no_item}
+use Rattle.walker.proofs.ActLaws.{leaf_taken, pushes, no_item}
 use Rattle.walker.proofs.act.wants.Statement.{statement}
 use Rattle.walker.proofs.act.wants.Tie as tie
 
@@ -23,7 +23,7 @@ returns-2 : tie.Need-returns-2
 returns-2 c = let a = c.before.before.args in no_item a.height a.stack.now (λ l m. omega arith)
 
 returns-3 : tie.Need-returns-3
-returns-3 c = let a = c.before.before.args in leaf-taken a.height a.stack.now (omega arith)
+returns-3 c = let a = c.before.before.args in leaf_taken a.height a.stack.now (omega arith)
 
 returns-4 : tie.Need-returns-4
 returns-4 c = let a = c.before.before.args in no_item a.height a.stack.now (λ l m. omega arith)

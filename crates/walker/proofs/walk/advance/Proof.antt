@@ -5,7 +5,7 @@ use borrow.Author.Rules.{rules}
 use Rattle.notation.specs.Symbols as Symbols
 use Rattle.walker.specs.Acts.{entry_of, closing}
 use Rattle.walker.specs.Steps.{closes, takes, ends, breaks}
-use Rattle.walker.proofs.WalkLaws.{popped, shifted, over, broke, popped-byte}
+use Rattle.walker.proofs.WalkLaws.{popped, shifted, over, broke, popped_byte}
 use Rattle.walker.proofs.walk.advance.Statement.{statement}
 use Rattle.walker.proofs.walk.advance.Tie as tie
 
@@ -23,7 +23,7 @@ element-copy-out-closed c = let s = c.before.before.before.before.before.before 
 
 closed-requires : tie.Need-closed-requires
 closed-requires c κs =
-    let o = c.before.before.before.one-act in let P = popped o.result c.before.before.match.keys1 o.ensures in omega (arith, popped-byte P, P.no-bracket)
+    let o = c.before.before.before.one-act in let P = popped o.result c.before.before.match.keys1 o.ensures in omega (arith, popped_byte P, P.no_bracket)
 
 enum-known-a : tie.Need-enum-known-a
 enum-known-a c = search rules
@@ -44,7 +44,7 @@ returns : tie.Need-returns
 returns c =
     let o = c.before.before.before.before.one-act in let P = popped o.result c.before.before.before.match.keys1 o.ensures in
     record {
-      acted = closes (record { pops = P; symbol = c.closed.ensures ∙ ap (λ b. Symbols.kind (closing (entry_of b))) (popped-byte P); walk = refl });
+      acted = closes (record { pops = P; symbol = c.closed.ensures ∙ ap (λ b. Symbols.kind (closing (entry_of b))) (popped_byte P); walk = refl });
       long = o.ensures.long;
     }
 

@@ -1,7 +1,7 @@
 -- `next` meets its promise. The loop's invariant: up to here nothing was put out. The measure is what is left to go. Assumes nothing.
 use mathlib.Core.Path.{◌∙◌}
 use native.Mathlib.Omega.{arith}
-use Rattle.walker.specs.Walks.{Passing, toGo}
+use Rattle.walker.specs.Walks.{Passing, to_go}
 use Rattle.walker.proofs.NextLaws.{stays, passed, given, along}
 use Rattle.walker.proofs.walk.next.Statement.{statement}
 use Rattle.walker.proofs.walk.next.Tie as tie
@@ -10,7 +10,7 @@ abbrev invariant-loop : tie.invariant-loop
 invariant-loop text stack₀ v₀ stack v = Passing text stack₀ stack v₀ v
 
 abbrev decreases-loop : tie.decreases-loop
-decreases-loop text stack₀ v₀ stack v = toGo text v
+decreases-loop text stack₀ v₀ stack v = to_go text v
 
 loop-holds : tie.Need-loop-init invariant-loop decreases-loop
 loop-holds c = stays _ c.before.requires.2

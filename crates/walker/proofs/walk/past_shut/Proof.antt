@@ -1,8 +1,8 @@
 -- `past_shut` meets its promise. The loop's invariant: up to here nothing was put out. The measure is what is left to go. Assumes nothing.
 use native.Mathlib.Omega.{arith}
 use borrow.Author.Rules.{rules}
-use Rattle.walker.specs.Walks.{Passing, toGo}
-use Rattle.walker.proofs.NextLaws.{stays, over-shut}
+use Rattle.walker.specs.Walks.{Passing, to_go}
+use Rattle.walker.proofs.NextLaws.{stays, over_shut}
 use Rattle.walker.proofs.walk.past_shut.Statement.{statement}
 use Rattle.walker.proofs.walk.past_shut.Tie as tie
 
@@ -11,7 +11,7 @@ invariant-loop text stack w height₀ token₀ height token =
     Passing text stack stack w (record { mode = w.mode; height = height; token = token })
 
 abbrev decreases-loop : tie.decreases-loop
-decreases-loop text stack w height₀ token₀ height token = toGo text (record { mode = w.mode; height = height; token = token })
+decreases-loop text stack w height₀ token₀ height token = to_go text (record { mode = w.mode; height = height; token = token })
 
 returns : tie.Need-returns invariant-loop decreases-loop
 returns c = stays _ c.before.before.before.requires.1
@@ -32,12 +32,12 @@ token-from-requires c κs = search rules
 loop-less : tie.Need-loop-smaller invariant-loop decreases-loop
 loop-less c =
     let l = c.before.before.before.loop in let s = c.before.before.shuts.ensures c.before.if2.true in
-    (over-shut l.height l.token c.token-from.result c.token-from.ensures l.invariant c.before.before.before.before.before.if1.false s.0 s.1 s.2).1
+    (over_shut l.height l.token c.token-from.result c.token-from.ensures l.invariant c.before.before.before.before.before.if1.false s.0 s.1 s.2).1
 
 loop-again : tie.Need-loop-preserved invariant-loop decreases-loop
 loop-again c =
     let l = c.before.before.before.loop in let s = c.before.before.shuts.ensures c.before.if2.true in
-    (over-shut l.height l.token c.token-from.result c.token-from.ensures l.invariant c.before.before.before.before.before.if1.false s.0 s.1 s.2).0
+    (over_shut l.height l.token c.token-from.result c.token-from.ensures l.invariant c.before.before.before.before.before.if1.false s.0 s.1 s.2).0
 
 returns-2 : tie.Need-returns-2 invariant-loop decreases-loop
 returns-2 c = c.before.before.loop.invariant

@@ -3,8 +3,8 @@
 use mathlib.Core.Path.{◌≡◌, ◌∙◌}
 use lib.ListN.{length}
 use borrow.Author.Rules.{rules}
-use Rattle.walker.specs.Walks.{toGo}
-use Rattle.walker.proofs.ReadLaws.{Stands, stands-first, stands_on, whole, stopped}
+use Rattle.walker.specs.Walks.{to_go}
+use Rattle.walker.proofs.ReadLaws.{Stands, stands_first, stands_on, whole, stopped}
 use Rattle.walker.proofs.walk.read_whole.Statement.{statement}
 use Rattle.walker.proofs.walk.read_whole.Tie as tie
 
@@ -12,13 +12,13 @@ abbrev invariant-loop : tie.invariant-loop
 invariant-loop text stack₀ w₀ stack w = Stands text stack w × (length stack ≡ 65536)
 
 abbrev decreases-loop : tie.decreases-loop
-decreases-loop text stack₀ w₀ stack w = toGo text w
+decreases-loop text stack₀ w₀ stack w = to_go text w
 
 over-requires : tie.Need-over-requires invariant-loop decreases-loop
 over-requires c κs = search rules
 
 loop-holds : tie.Need-loop-init invariant-loop decreases-loop
-loop-holds c = (stands-first c.before.before.args.text.now _ c.over.result c.over.ensures, search rules)
+loop-holds c = (stands_first c.before.before.args.text.now _ c.over.result c.over.ensures, search rules)
 
 advance-requires : tie.Need-advance-requires invariant-loop decreases-loop
 advance-requires c κs = let l = c.before.loop.invariant in (l.1, c.before.before.before.before.requires, l.0.walks)

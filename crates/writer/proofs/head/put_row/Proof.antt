@@ -2,7 +2,7 @@
 use Prim.Native.Nat.{◌-◌}
 use native.Mathlib.Omega.{arith}
 use lib.ListN.{length, get_or}
-use Rattle.writer.specs.PutLaws.{Laid, laid_none, laid_more, laid-all, small_at, groups-two}
+use Rattle.writer.specs.PutLaws.{Laid, laid_none, laid_more, laid_all, small_at, groups_two}
 use Rattle.writer.proofs.head.put_row.Statement.{statement}
 use Rattle.writer.proofs.head.put_row.Tie as tie
 
@@ -25,7 +25,7 @@ put-number-requires : tie.Need-put-number-requires invariant-loop decreases-loop
 put-number-requires c κs = let s = c.before.before.before.before.before.before in
     let l = c.before.before.before.loop in
     let n = get_or s.args.row.now l.i 0 in
-    omega (arith, s.requires.1, l.invariant.low, l.invariant.wrote.long, groups-two n (small_at s.args.row.now l.i (omega arith) s.requires.0))
+    omega (arith, s.requires.1, l.invariant.low, l.invariant.wrote.long, groups_two n (small_at s.args.row.now l.i (omega arith) s.requires.0))
 
 add-i : tie.Need-overflow-add-i invariant-loop decreases-loop
 add-i c = omega arith
@@ -42,7 +42,7 @@ same_length : tie.Need-same-length invariant-loop decreases-loop
 same_length c = c.before.loop.invariant.wrote.long
 
 returns : tie.Need-returns invariant-loop decreases-loop
-returns c = laid-all c.before.loop.invariant (omega arith)
+returns c = laid_all c.before.loop.invariant (omega arith)
 
 pub put-row-spec : {M : Type 1} → statement M
 put-row-spec =

@@ -2,7 +2,7 @@
 use mathlib.Core.List.{[], ◌∷◌}
 use native.Mathlib.Omega.{arith}
 use lib.ListN.{length}
-use Rattle.writer.specs.PutLaws.{wrote_on, wrote-both, wrote-last, numbers-most, groups-most}
+use Rattle.writer.specs.PutLaws.{wrote_on, wrote_both, wrote_last, numbers_most, groups_most}
 use borrow.Author.Rules.{rules}
 use Rattle.writer.proofs.head.write_head.Statement.{statement}
 use Rattle.writer.proofs.head.write_head.Tie as tie
@@ -11,7 +11,7 @@ cast-put-two : tie.Need-overflow-cast-put-two
 cast-put-two c = search rules
 
 put-two-requires : tie.Need-put-two-requires
-put-two-requires c κs = let s = c.before.before.before in omega (arith, numbers-most (1 ∷ length s.args.patterns.now ∷ []))
+put-two-requires c κs = let s = c.before.before.before in omega (arith, numbers_most (1 ∷ length s.args.patterns.now ∷ []))
 
 cast-put-two-2 : tie.Need-overflow-cast-put-two-2
 cast-put-two-2 c = search rules
@@ -20,16 +20,16 @@ cast-put-two-3 : tie.Need-overflow-cast-put-two-3
 cast-put-two-3 c = search rules
 
 put-two-requires-2 : tie.Need-put-two-requires-2
-put-two-requires-2 c κs = let s = c.before.before.before.before.before.before.before in omega (arith, numbers-most (1 ∷ length s.args.patterns.now ∷ []), numbers-most (s.args.switches ∷ s.args.nodes ∷ []))
+put-two-requires-2 c κs = let s = c.before.before.before.before.before.before.before in omega (arith, numbers_most (1 ∷ length s.args.patterns.now ∷ []), numbers_most (s.args.switches ∷ s.args.nodes ∷ []))
 
 cast-put-number : tie.Need-overflow-cast-put-number
 cast-put-number c = search rules
 
 put-number-requires : tie.Need-put-number-requires
-put-number-requires c κs = let s = c.before.before.before.before.before.before.before.before.before.before.before in omega (arith, numbers-most (1 ∷ length s.args.patterns.now ∷ []), numbers-most (s.args.switches ∷ s.args.nodes ∷ []), groups-most s.args.start)
+put-number-requires c κs = let s = c.before.before.before.before.before.before.before.before.before.before.before in omega (arith, numbers_most (1 ∷ length s.args.patterns.now ∷ []), numbers_most (s.args.switches ∷ s.args.nodes ∷ []), groups_most s.args.start)
 
 put-row-requires : tie.Need-put-row-requires
-put-row-requires c κs = let s = c.before.before.before.before.before.before.before.before.before.before.before.before.before.before.before in (s.requires.2.1.1.1, omega (arith, numbers-most (1 ∷ length s.args.patterns.now ∷ []), numbers-most (s.args.switches ∷ s.args.nodes ∷ []), groups-most s.args.start))
+put-row-requires c κs = let s = c.before.before.before.before.before.before.before.before.before.before.before.before.before.before.before in (s.requires.2.1.1.1, omega (arith, numbers_most (1 ∷ length s.args.patterns.now ∷ []), numbers_most (s.args.switches ∷ s.args.nodes ∷ []), groups_most s.args.start))
 
 same_length : tie.Need-same-length
 same_length c = search rules
@@ -38,9 +38,9 @@ returns : tie.Need-returns
 returns c = let a = c.before.before.before.before.before.before.before.before.before.before.before.before.before.before.before.before.before.before.args in
     let n = length a.patterns.now in
     wrote_on
-    (wrote-both (1 ∷ n ∷ a.switches ∷ a.nodes ∷ []) (a.start ∷ [])
-    (wrote-both (1 ∷ n ∷ []) (a.switches ∷ a.nodes ∷ []) c.before.before.before.before.before.before.before.before.before.before.before.before.before.before.put_two.ensures c.before.before.before.before.before.before.before.before.before.before.put-two2.ensures)
-    (wrote-last a.start c.before.before.before.before.before.before.put-number.ensures)) c.before.before.put-row.ensures
+    (wrote_both (1 ∷ n ∷ a.switches ∷ a.nodes ∷ []) (a.start ∷ [])
+    (wrote_both (1 ∷ n ∷ []) (a.switches ∷ a.nodes ∷ []) c.before.before.before.before.before.before.before.before.before.before.before.before.before.before.put_two.ensures c.before.before.before.before.before.before.before.before.before.before.put-two2.ensures)
+    (wrote_last a.start c.before.before.before.before.before.before.put-number.ensures)) c.before.before.put-row.ensures
 
 pub write-head-spec : {M : Type 1} → statement M
 write-head-spec =

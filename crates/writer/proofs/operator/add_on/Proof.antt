@@ -6,7 +6,7 @@ use lib.Dec.{eqb}
 use Rattle.format.specs.Written.{numbers}
 use Rattle.grammar.specs.Expr.{On}
 use Rattle.notation.specs.At.{name_at}
-use Rattle.writer.specs.Named.{placeBy}
+use Rattle.writer.specs.Named.{place_by}
 use Rattle.writer.proofs.LeafLaws.{bit_byte}
 use borrow.Author.Rules.{rules}
 use Rattle.writer.proofs.operator.add_on.Statement.{statement}
@@ -31,7 +31,7 @@ returns : tie.Need-returns
 returns c = let a = c.before.before.before.before.before.before.before.before.args in
     let n = name_at a.text.now a.p in
     let w = not (eqb a.mark 13) in
-    c.before.before.add-three.ensures (On (placeBy a.text.now a.switches.now n) w a.a)
+    c.before.before.add-three.ensures (On (place_by a.text.now a.switches.now n) w a.a)
     (ap₂ (λ n b. numbers (18 ∷ n ∷ b ∷ a.a ∷ [])) (sym c.before.before.before.before.place_of.ensures.0) (bit_byte w))
 
 pub add-on-spec : {M : Type 1} → statement M

@@ -7,24 +7,24 @@ use Rattle.format.specs.Written.{numbers}
 use Rattle.grammar.specs.Expr.{Expr, Def}
 use Rattle.notation.specs.Tree.{Name, Opener}
 use Rattle.notation.specs.At.{name_at}
-use Rattle.notation.specs.Compile.{operatorNode}
-use Rattle.writer.specs.Named.{placeBy}
-use Rattle.writer.specs.Operator.{openerOf}
-use Rattle.writer.specs.PutLaws.{adds-as}
-use Rattle.writer.proofs.OperatorLaws.{opener-def, opener-on, opener-scope}
+use Rattle.notation.specs.Compile.{operator_node}
+use Rattle.writer.specs.Named.{place_by}
+use Rattle.writer.specs.Operator.{opener_of}
+use Rattle.writer.specs.PutLaws.{adds_as}
+use Rattle.writer.proofs.OperatorLaws.{opener_def, opener_on, opener_scope}
 use borrow.Author.Rules.{rules}
 use Rattle.writer.proofs.operator.add_operator.Statement.{statement}
 use Rattle.writer.proofs.operator.add_operator.Tie as tie
 
 -- The numbers of the names, and the node of an operator.
 abbrev tables : tie.Start → Name → ℕ
-tables s = placeBy s.args.text.now s.args.tables.now
+tables s = place_by s.args.text.now s.args.tables.now
 
 abbrev switches : tie.Start → Name → ℕ
-switches s = placeBy s.args.text.now s.args.switches.now
+switches s = place_by s.args.text.now s.args.switches.now
 
 abbrev node : tie.Start → (Name → ℕ) → Opener → List Expr
-node s production o = operatorNode production (tables s) (switches s) o s.args.a ∷ []
+node s production o = operator_node production (tables s) (switches s) o s.args.a ∷ []
 
 add-on-requires : tie.Need-add-on-requires
 add-on-requires c κs = search rules
@@ -35,7 +35,7 @@ same_length c = search rules
 returns : tie.Need-returns
 returns c = let s = c.before.before.before.before.before.before.before.before.before in
     let a = s.args in
-    λ production. adds-as (ap (node s production) (sym (opener-on a.mark (name_at a.text.now a.p) (omega arith)))) c.before.before.add-on.ensures
+    λ production. adds_as (ap (node s production) (sym (opener_on a.mark (name_at a.text.now a.p) (omega arith)))) c.before.before.add-on.ensures
 
 place-of-requires : tie.Need-place-of-requires
 place-of-requires c κs = search rules
@@ -53,7 +53,7 @@ returns-2 : tie.Need-returns-2
 returns-2 c = let s = c.before.before.before.before.before.before.before.before.before.before.before in
     let a = s.args in
     let n = name_at a.text.now a.p in
-    λ production. adds-as (ap (node s production) (sym (opener-def a.mark n (omega arith))))
+    λ production. adds_as (ap (node s production) (sym (opener_def a.mark n (omega arith))))
     (c.before.before.add-one.ensures (Def (tables s n)) (ap (λ n. numbers (10 ∷ n ∷ [])) (sym c.before.before.before.before.before.place_of.ensures.0)))
 
 wide-requires : tie.Need-wide-requires
@@ -72,8 +72,8 @@ returns-3 : tie.Need-returns-3
 returns-3 c = let s = c.before.before.before.before.before.before.before.before.before.before.before.before in
     let a = s.args in
     let n = name_at a.text.now a.p in
-    λ production. c.before.before.add-two.ensures (operatorNode production (tables s) (switches s) (openerOf a.mark n) a.a)
-    (opener-scope a.mark n (omega arith) (omega arith) production (tables s) (switches s) a.a
+    λ production. c.before.before.add-two.ensures (operator_node production (tables s) (switches s) (opener_of a.mark n) a.a)
+    (opener_scope a.mark n (omega arith) (omega arith) production (tables s) (switches s) a.a
     ∙ ap₂ (λ m n. numbers ((m + 4) ∷ n ∷ a.a ∷ [])) (sym c.before.before.before.wide.ensures) (sym c.before.before.before.before.before.before.place_of.ensures.0))
 
 pub add-operator-spec : {M : Type 1} → statement M

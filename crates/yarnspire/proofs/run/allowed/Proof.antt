@@ -2,7 +2,7 @@
 use mathlib.Core.Path.{sym}
 use native.Mathlib.Nat.{pos_of_ne-zero}
 use native.Mathlib.Omega.{arith}
-use Rattle.meaning.specs.Demands.{in-range, out_of_range}
+use Rattle.meaning.specs.Demands.{in_range_lem, out_of_range}
 use Rattle.yarnspire.proofs.run.allowed.Statement.{statement}
 use Rattle.yarnspire.proofs.run.allowed.Tie as tie
 
@@ -23,12 +23,12 @@ returns-5 c = let a = c.before.before.before.before.before.args in sym (out_of_r
 
 returns-6 : tie.Need-returns-6
 returns-6 c =
-    sym (in-range (record {
-      some-steps = pos_of_ne-zero c.before.before.before.before.if1.false;
-      few-steps = c.before.before.before.if2.false;
-      some-depth = pos_of_ne-zero c.before.before.if3.false;
-      small-depth = c.before.if4.false;
-      small-room = c.if5.false;
+    sym (in_range_lem (record {
+      some_steps = pos_of_ne-zero c.before.before.before.before.if1.false;
+      few_steps = c.before.before.before.if2.false;
+      some_depth = pos_of_ne-zero c.before.before.if3.false;
+      small_depth = c.before.if4.false;
+      small_room = c.if5.false;
     }))
 
 pub allowed-spec : {M : Type 1} → statement M

@@ -21,7 +21,7 @@ returns : tie.Need-returns
 returns c =
     let r = c.before.before.before.before.before.compile in
     let e = c.before.compiled.given.1 in
-    record { compiled = r.result; compiles = r.ensures; number_is = ap number_of (sym e); length-is = ap length_of (sym e); at-is = ap atOf (sym e) }
+    record { compiled = r.result; compiles = r.ensures; number_is = ap number_of (sym e); length_is = ap length_of (sym e); at_is = ap atOf (sym e) }
 
 same-length-2 : tie.Need-same-length-2
 same-length-2 c = search rules
@@ -30,7 +30,7 @@ returns-2 : tie.Need-returns-2
 returns-2 c =
     let r = c.before.before.before.before.before.compile in
     let e = c.before.compiled2.given.1 in
-    record { compiled = r.result; compiles = r.ensures; number_is = ap number_of (sym e); length-is = ap length_of (sym e); at-is = ap atOf (sym e) }
+    record { compiled = r.result; compiles = r.ensures; number_is = ap number_of (sym e); length_is = ap length_of (sym e); at_is = ap atOf (sym e) }
 
 pub yarnspire-compile-spec : {M : Type 1} → statement M
 yarnspire-compile-spec =

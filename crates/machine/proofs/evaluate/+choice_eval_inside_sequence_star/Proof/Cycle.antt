@@ -4,216 +4,216 @@ use Prim.Native.Nat.{ℕ, ◌+◌, ◌*◌, ◌<◌}
 use borrow.Fn.Kinds.{In}
 use borrow.Fn.PlainCycle.{Measures, is, falls, and}
 use Rattle.machine.proofs.evaluate.choice.Reads as choice
-use Rattle.machine.proofs.evaluate.choice.Kinds as choice-kinds
-use Rattle.machine.proofs.evaluate.+choice_eval_inside_sequence_star.Lts-choice as choice-lts
+use Rattle.machine.proofs.evaluate.choice.Kinds as choice_kinds
+use Rattle.machine.proofs.evaluate.+choice_eval_inside_sequence_star.Lts-choice as choice_lts
 use Rattle.machine.proofs.evaluate.eval.Reads as eval
-use Rattle.machine.proofs.evaluate.eval.Kinds as eval-kinds
-use Rattle.machine.proofs.evaluate.+choice_eval_inside_sequence_star.Lts-eval as eval-lts
+use Rattle.machine.proofs.evaluate.eval.Kinds as eval_kinds
+use Rattle.machine.proofs.evaluate.+choice_eval_inside_sequence_star.Lts-eval as eval_lts
 use Rattle.machine.proofs.evaluate.inside.Reads as inside
-use Rattle.machine.proofs.evaluate.inside.Kinds as inside-kinds
-use Rattle.machine.proofs.evaluate.+choice_eval_inside_sequence_star.Lts-inside as inside-lts
+use Rattle.machine.proofs.evaluate.inside.Kinds as inside_kinds
+use Rattle.machine.proofs.evaluate.+choice_eval_inside_sequence_star.Lts-inside as inside_lts
 use Rattle.machine.proofs.evaluate.sequence.Reads as sequence
-use Rattle.machine.proofs.evaluate.sequence.Kinds as sequence-kinds
-use Rattle.machine.proofs.evaluate.+choice_eval_inside_sequence_star.Lts-sequence as sequence-lts
+use Rattle.machine.proofs.evaluate.sequence.Kinds as sequence_kinds
+use Rattle.machine.proofs.evaluate.+choice_eval_inside_sequence_star.Lts-sequence as sequence_lts
 use Rattle.machine.proofs.evaluate.star.Reads as star
-use Rattle.machine.proofs.evaluate.star.Kinds as star-kinds
-use Rattle.machine.proofs.evaluate.+choice_eval_inside_sequence_star.Lts-star as star-lts
-use Rattle.image.proofs.node_of.Reads as node-of-reads
-use Rattle.image.proofs.node.span_of.Reads as span-of-reads
-use Rattle.kinds.proofs.inside.again.Reads as again-reads
-use Rattle.kinds.proofs.inside.closed.Reads as closed-reads
-use Rattle.kinds.proofs.inside.defined.Reads as defined-reads
-use Rattle.kinds.proofs.inside.given.Reads as given-reads
-use Rattle.kinds.proofs.inside.is_latest.Reads as is-latest-reads
-use Rattle.kinds.proofs.inside.is_some.Reads as is-some-reads
-use Rattle.kinds.proofs.inside.negated.Reads as negated-reads
-use Rattle.kinds.proofs.inside.restored.Reads as restored-reads
-use Rattle.kinds.proofs.state.floor.Reads as floor-reads
-use Rattle.kinds.proofs.state.truth.Reads as truth-reads
-use Rattle.kinds.proofs.state.with_floor.Reads as with-floor-reads
-use Rattle.kinds.proofs.state.with_truth.Reads as with-truth-reads
-use Rattle.parts.proofs.bytes.begins_with.Reads as begins-with-reads
-use Rattle.parts.proofs.bytes.within.Reads as within-reads
-use Rattle.parts.proofs.outcome.at_of.Reads as at-of-reads
-use Rattle.parts.proofs.outcome.depth_of.Reads as depth-of-reads
-use Rattle.parts.proofs.outcome.failed.Reads as failed-reads
-use Rattle.parts.proofs.outcome.held_of.Reads as held-of-reads
-use Rattle.parts.proofs.outcome.onward.Reads as onward-reads
-use Rattle.parts.proofs.outcome.opened.Reads as opened-reads
-use Rattle.parts.proofs.outcome.passed.Reads as Passed-reads
-use Rattle.parts.proofs.outcome.refused.Reads as refused-reads
-use Rattle.parts.proofs.outcome.steps_of.Reads as steps-of-reads
-use Rattle.parts.proofs.outcome.stopped.Reads as stopped-reads
-use Rattle.parts.proofs.slots.latest.Reads as latest-reads
-use Rattle.tally.proofs.entered.Reads as entered-reads
+use Rattle.machine.proofs.evaluate.star.Kinds as star_kinds
+use Rattle.machine.proofs.evaluate.+choice_eval_inside_sequence_star.Lts-star as star_lts
+use Rattle.image.proofs.node_of.Reads as node_of_reads
+use Rattle.image.proofs.node.span_of.Reads as span_of_reads
+use Rattle.kinds.proofs.inside.again.Reads as again_reads
+use Rattle.kinds.proofs.inside.closed.Reads as closed_reads
+use Rattle.kinds.proofs.inside.defined.Reads as defined_reads
+use Rattle.kinds.proofs.inside.given.Reads as given_reads
+use Rattle.kinds.proofs.inside.is_latest.Reads as is_latest_reads
+use Rattle.kinds.proofs.inside.is_some.Reads as is_some_reads
+use Rattle.kinds.proofs.inside.negated.Reads as negated_reads
+use Rattle.kinds.proofs.inside.restored.Reads as restored_reads
+use Rattle.kinds.proofs.state.floor.Reads as floor_reads
+use Rattle.kinds.proofs.state.truth.Reads as truth_reads
+use Rattle.kinds.proofs.state.with_floor.Reads as with_floor_reads
+use Rattle.kinds.proofs.state.with_truth.Reads as with_truth_reads
+use Rattle.parts.proofs.bytes.begins_with.Reads as begins_with_reads
+use Rattle.parts.proofs.bytes.within.Reads as within_reads
+use Rattle.parts.proofs.outcome.at_of.Reads as at_of_reads
+use Rattle.parts.proofs.outcome.depth_of.Reads as depth_of_reads
+use Rattle.parts.proofs.outcome.failed.Reads as failed_reads
+use Rattle.parts.proofs.outcome.held_of.Reads as held_of_reads
+use Rattle.parts.proofs.outcome.onward.Reads as onward_reads
+use Rattle.parts.proofs.outcome.opened.Reads as opened_reads
+use Rattle.parts.proofs.outcome.passed.Reads as Passed_reads
+use Rattle.parts.proofs.outcome.refused.Reads as refused_reads
+use Rattle.parts.proofs.outcome.steps_of.Reads as steps_of_reads
+use Rattle.parts.proofs.outcome.stopped.Reads as stopped_reads
+use Rattle.parts.proofs.slots.latest.Reads as latest_reads
+use Rattle.tally.proofs.entered.Reads as entered_reads
 
-abbrev pub μ-choice : Measures 4 choice-kinds.ps ℕ
+abbrev pub μ-choice : Measures 4 choice_kinds.ps ℕ
 μ-choice κs a = a.1.1.1.1.1.0 * 3 + 2
 
-abbrev pub μ-eval : Measures 4 eval-kinds.ps ℕ
+abbrev pub μ-eval : Measures 4 eval_kinds.ps ℕ
 μ-eval κs a = a.1.1.1.1.1.0 * 3 + 1
 
-abbrev pub μ-inside : Measures 4 inside-kinds.ps ℕ
+abbrev pub μ-inside : Measures 4 inside_kinds.ps ℕ
 μ-inside κs a = a.1.1.1.1.1.0 * 3
 
-abbrev pub μ-sequence : Measures 4 sequence-kinds.ps ℕ
+abbrev pub μ-sequence : Measures 4 sequence_kinds.ps ℕ
 μ-sequence κs a = a.1.1.1.1.1.0 * 3 + 2
 
-abbrev pub μ-star : Measures 4 star-kinds.ps ℕ
+abbrev pub μ-star : Measures 4 star_kinds.ps ℕ
 μ-star κs a = a.1.1.1.1.1.0 * 3 + 2
 
-abbrev pub choice-at : ℕ → In 4 choice-kinds.ps
-choice-at t = and 4 choice-kinds.ps (is 4 choice-kinds.ps μ-choice t) choice.Pre
+abbrev pub choice_at : ℕ → In 4 choice_kinds.ps
+choice_at t = and 4 choice_kinds.ps (is 4 choice_kinds.ps μ-choice t) choice.Pre
 
-abbrev pub choice-below : ℕ → In 4 choice-kinds.ps
-choice-below t = and 4 choice-kinds.ps (falls 4 choice-kinds.ps ◌<◌ μ-choice t) choice.Pre
+abbrev pub choice_below : ℕ → In 4 choice_kinds.ps
+choice_below t = and 4 choice_kinds.ps (falls 4 choice_kinds.ps ◌<◌ μ-choice t) choice.Pre
 
-abbrev pub eval-at : ℕ → In 4 eval-kinds.ps
-eval-at t = and 4 eval-kinds.ps (is 4 eval-kinds.ps μ-eval t) eval.Pre
+abbrev pub eval_at : ℕ → In 4 eval_kinds.ps
+eval_at t = and 4 eval_kinds.ps (is 4 eval_kinds.ps μ-eval t) eval.Pre
 
-abbrev pub eval-below : ℕ → In 4 eval-kinds.ps
-eval-below t = and 4 eval-kinds.ps (falls 4 eval-kinds.ps ◌<◌ μ-eval t) eval.Pre
+abbrev pub eval_below : ℕ → In 4 eval_kinds.ps
+eval_below t = and 4 eval_kinds.ps (falls 4 eval_kinds.ps ◌<◌ μ-eval t) eval.Pre
 
-abbrev pub inside-at : ℕ → In 4 inside-kinds.ps
-inside-at t = and 4 inside-kinds.ps (is 4 inside-kinds.ps μ-inside t) inside.Pre
+abbrev pub inside_at : ℕ → In 4 inside_kinds.ps
+inside_at t = and 4 inside_kinds.ps (is 4 inside_kinds.ps μ-inside t) inside.Pre
 
-abbrev pub inside-below : ℕ → In 4 inside-kinds.ps
-inside-below t = and 4 inside-kinds.ps (falls 4 inside-kinds.ps ◌<◌ μ-inside t) inside.Pre
+abbrev pub inside_below : ℕ → In 4 inside_kinds.ps
+inside_below t = and 4 inside_kinds.ps (falls 4 inside_kinds.ps ◌<◌ μ-inside t) inside.Pre
 
-abbrev pub sequence-at : ℕ → In 4 sequence-kinds.ps
-sequence-at t = and 4 sequence-kinds.ps (is 4 sequence-kinds.ps μ-sequence t) sequence.Pre
+abbrev pub sequence_at : ℕ → In 4 sequence_kinds.ps
+sequence_at t = and 4 sequence_kinds.ps (is 4 sequence_kinds.ps μ-sequence t) sequence.Pre
 
-abbrev pub sequence-below : ℕ → In 4 sequence-kinds.ps
-sequence-below t = and 4 sequence-kinds.ps (falls 4 sequence-kinds.ps ◌<◌ μ-sequence t) sequence.Pre
+abbrev pub sequence_below : ℕ → In 4 sequence_kinds.ps
+sequence_below t = and 4 sequence_kinds.ps (falls 4 sequence_kinds.ps ◌<◌ μ-sequence t) sequence.Pre
 
-abbrev pub star-at : ℕ → In 4 star-kinds.ps
-star-at t = and 4 star-kinds.ps (is 4 star-kinds.ps μ-star t) star.Pre
+abbrev pub star_at : ℕ → In 4 star_kinds.ps
+star_at t = and 4 star_kinds.ps (is 4 star_kinds.ps μ-star t) star.Pre
 
-abbrev pub star-below : ℕ → In 4 star-kinds.ps
-star-below t = and 4 star-kinds.ps (falls 4 star-kinds.ps ◌<◌ μ-star t) star.Pre
+abbrev pub star_below : ℕ → In 4 star_kinds.ps
+star_below t = and 4 star_kinds.ps (falls 4 star_kinds.ps ◌<◌ μ-star t) star.Pre
 
-abbrev pub choice-claims : ℕ → choice-lts.Claims
-choice-claims t = (
-  eval-below t,
+abbrev pub choice_claims : ℕ → choice_lts.Claims
+choice_claims t = (
+  eval_below t,
   eval.Post,
-  opened-reads.Asked,
-  opened-reads.Learnt,
-  at-of-reads.Asked,
-  at-of-reads.Learnt,
-  held-of-reads.Asked,
-  held-of-reads.Learnt,
-  Passed-reads.Asked,
-  Passed-reads.Learnt,
+  opened_reads.Asked,
+  opened_reads.Learnt,
+  at_of_reads.Asked,
+  at_of_reads.Learnt,
+  held_of_reads.Asked,
+  held_of_reads.Learnt,
+  Passed_reads.Asked,
+  Passed_reads.Learnt,
 )
 
-abbrev pub eval-claims : ℕ → eval-lts.Claims
-eval-claims t = (
-  steps-of-reads.Asked,
-  steps-of-reads.Learnt,
-  stopped-reads.Asked,
-  stopped-reads.Learnt,
-  node-of-reads.Asked,
-  node-of-reads.Learnt,
-  span-of-reads.Asked,
-  span-of-reads.Learnt,
-  depth-of-reads.Asked,
-  depth-of-reads.Learnt,
-  at-of-reads.Asked,
-  at-of-reads.Learnt,
-  within-reads.Asked,
-  within-reads.Learnt,
-  entered-reads.Asked,
-  entered-reads.Learnt,
-  held-of-reads.Asked,
-  held-of-reads.Learnt,
-  Passed-reads.Asked,
-  Passed-reads.Learnt,
-  onward-reads.Asked,
-  onward-reads.Learnt,
-  inside-below t,
+abbrev pub eval_claims : ℕ → eval_lts.Claims
+eval_claims t = (
+  steps_of_reads.Asked,
+  steps_of_reads.Learnt,
+  stopped_reads.Asked,
+  stopped_reads.Learnt,
+  node_of_reads.Asked,
+  node_of_reads.Learnt,
+  span_of_reads.Asked,
+  span_of_reads.Learnt,
+  depth_of_reads.Asked,
+  depth_of_reads.Learnt,
+  at_of_reads.Asked,
+  at_of_reads.Learnt,
+  within_reads.Asked,
+  within_reads.Learnt,
+  entered_reads.Asked,
+  entered_reads.Learnt,
+  held_of_reads.Asked,
+  held_of_reads.Learnt,
+  Passed_reads.Asked,
+  Passed_reads.Learnt,
+  onward_reads.Asked,
+  onward_reads.Learnt,
+  inside_below t,
   inside.Post,
 )
 
-abbrev pub inside-claims : ℕ → inside-lts.Claims
-inside-claims t = (
-  at-of-reads.Asked,
-  at-of-reads.Learnt,
-  held-of-reads.Asked,
-  held-of-reads.Learnt,
-  steps-of-reads.Asked,
-  steps-of-reads.Learnt,
-  depth-of-reads.Asked,
-  depth-of-reads.Learnt,
-  entered-reads.Asked,
-  entered-reads.Learnt,
-  Passed-reads.Asked,
-  Passed-reads.Learnt,
-  node-of-reads.Asked,
-  node-of-reads.Learnt,
-  within-reads.Asked,
-  within-reads.Learnt,
-  given-reads.Asked,
-  given-reads.Learnt,
-  begins-with-reads.Asked,
-  begins-with-reads.Learnt,
-  sequence-below t,
+abbrev pub inside_claims : ℕ → inside_lts.Claims
+inside_claims t = (
+  at_of_reads.Asked,
+  at_of_reads.Learnt,
+  held_of_reads.Asked,
+  held_of_reads.Learnt,
+  steps_of_reads.Asked,
+  steps_of_reads.Learnt,
+  depth_of_reads.Asked,
+  depth_of_reads.Learnt,
+  entered_reads.Asked,
+  entered_reads.Learnt,
+  Passed_reads.Asked,
+  Passed_reads.Learnt,
+  node_of_reads.Asked,
+  node_of_reads.Learnt,
+  within_reads.Asked,
+  within_reads.Learnt,
+  given_reads.Asked,
+  given_reads.Learnt,
+  begins_with_reads.Asked,
+  begins_with_reads.Learnt,
+  sequence_below t,
   sequence.Post,
-  choice-below t,
+  choice_below t,
   choice.Post,
-  star-below t,
+  star_below t,
   star.Post,
-  eval-below t,
+  eval_below t,
   eval.Post,
-  negated-reads.Asked,
-  negated-reads.Learnt,
-  defined-reads.Asked,
-  defined-reads.Learnt,
-  floor-reads.Asked,
-  floor-reads.Learnt,
-  latest-reads.Asked,
-  latest-reads.Learnt,
-  failed-reads.Asked,
-  failed-reads.Learnt,
-  again-reads.Asked,
-  again-reads.Learnt,
-  is-latest-reads.Asked,
-  is-latest-reads.Learnt,
-  is-some-reads.Asked,
-  is-some-reads.Learnt,
-  closed-reads.Asked,
-  closed-reads.Learnt,
-  with-floor-reads.Asked,
-  with-floor-reads.Learnt,
-  truth-reads.Asked,
-  truth-reads.Learnt,
-  with-truth-reads.Asked,
-  with-truth-reads.Learnt,
-  restored-reads.Asked,
-  restored-reads.Learnt,
+  negated_reads.Asked,
+  negated_reads.Learnt,
+  defined_reads.Asked,
+  defined_reads.Learnt,
+  floor_reads.Asked,
+  floor_reads.Learnt,
+  latest_reads.Asked,
+  latest_reads.Learnt,
+  failed_reads.Asked,
+  failed_reads.Learnt,
+  again_reads.Asked,
+  again_reads.Learnt,
+  is_latest_reads.Asked,
+  is_latest_reads.Learnt,
+  is_some_reads.Asked,
+  is_some_reads.Learnt,
+  closed_reads.Asked,
+  closed_reads.Learnt,
+  with_floor_reads.Asked,
+  with_floor_reads.Learnt,
+  truth_reads.Asked,
+  truth_reads.Learnt,
+  with_truth_reads.Asked,
+  with_truth_reads.Learnt,
+  restored_reads.Asked,
+  restored_reads.Learnt,
 )
 
-abbrev pub sequence-claims : ℕ → sequence-lts.Claims
-sequence-claims t = (
-  eval-below t,
+abbrev pub sequence_claims : ℕ → sequence_lts.Claims
+sequence_claims t = (
+  eval_below t,
   eval.Post,
-  opened-reads.Asked,
-  opened-reads.Learnt,
+  opened_reads.Asked,
+  opened_reads.Learnt,
 )
 
-abbrev pub star-claims : ℕ → star-lts.Claims
-star-claims t = (
-  eval-below t,
+abbrev pub star_claims : ℕ → star_lts.Claims
+star_claims t = (
+  eval_below t,
   eval.Post,
-  opened-reads.Asked,
-  opened-reads.Learnt,
-  at-of-reads.Asked,
-  at-of-reads.Learnt,
-  held-of-reads.Asked,
-  held-of-reads.Learnt,
-  Passed-reads.Asked,
-  Passed-reads.Learnt,
-  refused-reads.Asked,
-  refused-reads.Learnt,
-  entered-reads.Asked,
-  entered-reads.Learnt,
+  opened_reads.Asked,
+  opened_reads.Learnt,
+  at_of_reads.Asked,
+  at_of_reads.Learnt,
+  held_of_reads.Asked,
+  held_of_reads.Learnt,
+  Passed_reads.Asked,
+  Passed_reads.Learnt,
+  refused_reads.Asked,
+  refused_reads.Learnt,
+  entered_reads.Asked,
+  entered_reads.Learnt,
 )
