@@ -1,4 +1,6 @@
 // The bytes that quoted text and classes of a text stand for, each as it is written.
+#![tactic(auto)]
+
 pub mod class;
 pub mod quoted;
 pub mod written;

@@ -1,5 +1,7 @@
 // Writes the image of a grammar's text to standard output. The text is the file that its one argument names, or `grammar`. A text that is refused
 // gives nothing there; standard error says why, and where.
+#![tactic(auto)]
+
 mod before;
 mod fault;
 mod line;

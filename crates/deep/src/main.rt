@@ -1,5 +1,7 @@
 // Recursion through each kind that runs what stands inside it, down to the greatest depth that can be asked for: one line a kind with the
 // answer's number, steps and depth. With an argument only the kind of that letter is run, so that the stack it takes can be measured.
+#![tactic(auto)]
+
 use libc::STDOUT_FILENO;
 use yarnspire::Answer;
 

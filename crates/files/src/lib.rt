@@ -1,4 +1,6 @@
 // Reading a file whole, into a buffer that the caller lends.
+#![tactic(auto)]
+
 ghost use Rattle.std.specs.Prelude.{◌≤◌, length};
 ghost use Rattle.files.specs.Within.{Within};
 

@@ -2,6 +2,8 @@
 //
 // `check` takes every byte string, of any length, and says good or the first fault's number and place. `load` does the same walk
 // and puts down what the evaluator visits nodes by; `node_of` gives the node that is kept there.
+#![tactic(auto)]
+
 pub mod node;
 mod number;
 mod operands;

@@ -1,5 +1,7 @@
 // Checks an image and prints what it found: the counts of its grammar, each table's pattern and each node; or the refusal. The
 // image is the file that its one argument names, or `rules`.
+#![tactic(auto)]
+
 mod listing;
 
 use files::Taken;

@@ -1,2 +1,4 @@
 // The machine: the evaluator over the nineteen kinds.
+#![tactic(auto)]
+
 pub mod evaluate;

@@ -1,4 +1,6 @@
 // What a text's tokens decide one by one: the names that they define and use, the nodes that they come to, and what is past a limit.
+#![tactic(auto)]
+
 pub mod found;
 pub mod gather;
 pub mod image;

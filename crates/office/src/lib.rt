@@ -1,4 +1,6 @@
 // What the programs `recognise` and `names` share: the two files, the run under the greatest limits, and what they write of its answer.
+#![tactic(auto)]
+
 mod held;
 
 use files::Taken;

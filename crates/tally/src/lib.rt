@@ -1,6 +1,8 @@
 // One running tally of steps and greatest depth, and what it costs to enter an expression or to try a later round.
 //
 // The tally is lent by &mut to `charge`, which alone writes it. Whoever has plain numbers calls `entered`.
+#![tactic(auto)]
+
 ghost use Rattle.std.specs.Prelude.{◌≡◌, ◌+◌, ◌<◌, max};
 ghost use Rattle.tally.specs.Charged.{charged};
 

@@ -2,6 +2,8 @@
 //
 // Four operations, which take every text, image, input, limits and buffer, of any length, and ask nothing of their caller: `compile`, `check`, `recognise` and
 // `accepted_text`. For C and Rust: `yarnspire_compile`, `yarnspire_check` and `yarnspire_recognise`.
+#![tactic(auto)]
+
 ghost use Rattle.std.specs.Prelude.{◌≡◌};
 ghost use Rattle.yarnspire.specs.Answer.{six_of, numbers};
 ghost use Rattle.yarnspire.specs.Promise.{Checks, Numbers, Answers, Recognised, Texts};

@@ -1,0 +1,18 @@
+-- `onward` meets its promise. Assumes nothing.
+use mathlib.Core.Path.{ap, sym, ◌∙◌}
+use native.Mathlib.Omega.{arith}
+use Rattle.format.specs.Reading.{pick}
+use Rattle.parts.specs.PackedLaws.{short_number, tally_whole, depth_small, opens_onward, opens_lost}
+use Rattle.parts.proofs.outcome.onward.Goals as goal
+
+pub overflow_add-result : goal.overflow_add-result
+overflow_add-result c = omega (arith, short_number c.args.from c.requires.1)
+
+pub returns-then-ok : goal.returns-then-ok
+returns-then-ok c = rw c.if-ok.true (opens_onward c.args.from c.requires.1 (c.requires.0 c.if-ok.true))
+
+pub overflow_add-result-2 : goal.overflow_add-result-2
+overflow_add-result-2 c = omega (arith, short_number c.args.from c.requires.1)
+
+pub returns : goal.returns
+returns c = rw c.if-ok.false (opens_lost c.args.from c.requires.1)

@@ -1,0 +1,12 @@
+-- `close` meets its promise. The loop's invariant: what was passed is closed already, and what lies ahead is as it was. Assumes nothing.
+use Prim.Native.Nat.{◌+◌, ◌-◌}
+use mathlib.Core.Path.{subst, sym}
+use native.Mathlib.Omega.{arith}
+use Rattle.parts.specs.SlotsLaws.{Closing, closing_starts, closing_drops, closing_keeps, closing_ends}
+use Rattle.parts.proofs.slots.close.Given as goal
+
+abbrev pub invariant-loop-from : goal.invariant-loop-from
+invariant-loop-from l = Closing l.table l.mark l.held l.initial.slots l.slots l.from l.to
+
+abbrev pub decreases-loop-from : goal.decreases-loop-from
+decreases-loop-from l = l.held - l.from
