@@ -9,7 +9,7 @@ ghost use Rattle.chars.specs.Meant.{ReadsPart, PartsEnd, ClassEnds, ClassAt};
 use crate::written::{End, char_at};
 
 // lo, hi: the bytes from one to the other; 256 where no part is. next: the place behind it.
-#[derive(Drop)]
+#[derive(Clone, Copy)]
 pub struct Part {
     pub lo: u16,
     pub hi: u16,

@@ -5,14 +5,14 @@ ghost use Rattle.chars.specs.Char.{hex_of, escaped_of, char_of};
 ghost use Rattle.chars.specs.Meant.{below, ReadsByte};
 
 // byte: what is written; 256 where no byte is. next: the place behind it.
-#[derive(Drop)]
+#[derive(Clone, Copy)]
 pub struct Char {
     pub byte: u16,
     pub next: usize,
 }
 
 // Where quoted text or a class ends: the place behind what closes it; or it is not written well, or nothing closes it.
-#[derive(Drop)]
+#[derive(Clone, Copy)]
 pub enum End {
     Behind(usize),
     Open,

@@ -2,7 +2,7 @@
 ghost use Rattle.std.specs.Prelude.{◌≤◌};
 
 // The line's number and the place's column in it, both from 1 and the column in characters; and how many bytes of the line stand before the place.
-#[derive(Drop)]
+#[derive(Clone, Copy)]
 pub struct Line {
     pub number: usize,
     pub column: usize,

@@ -15,7 +15,7 @@ use writer::head::write_head;
 use writer::node::Made;
 
 // The image stands at the front of the lent buffer, and has so many bytes; or the text is refused, with a number from 20 to 25 and a place.
-#[derive(Drop)]
+#[derive(Clone, Copy)]
 pub enum Compiled {
     Written(u32),
     Refused { number: u32, at: u32 },

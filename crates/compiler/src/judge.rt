@@ -19,7 +19,7 @@ use patterns::one::one_pattern;
 use walker::walk::{Reading, read_whole};
 
 // The text passes; or it is refused, with a number and a place.
-#[derive(Drop)]
+#[derive(Clone, Copy)]
 pub enum Judgement {
     Passed,
     Refused(u32, usize),

@@ -5,7 +5,7 @@ ghost use Rattle.emitter.specs.Shown.{Settles, EndsOne};
 use writer::node::Made;
 
 // made: the nodes so far. complete: how many expressions are complete. openers: how many operators in angle brackets are open. ended: how many productions have ended.
-#[derive(Drop)]
+#[derive(Clone, Copy)]
 pub struct State {
     pub made: Made,
     pub complete: usize,

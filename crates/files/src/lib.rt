@@ -5,7 +5,7 @@ ghost use Rattle.std.specs.Prelude.{◌≤◌, length};
 ghost use Rattle.files.specs.Within.{Within};
 
 // How a file was read: so many bytes are at the start of the buffer; or it could not be opened, or a read failed, and errno says why.
-#[derive(Drop)]
+#[derive(Clone, Copy)]
 pub enum Taken {
     Bytes(usize),
     Unopened,

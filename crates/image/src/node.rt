@@ -5,7 +5,7 @@ ghost use Rattle.image.specs.Node.{node_of, span_of};
 
 // Exactly one of nineteen kinds with its own operands: bytes, numbers of nodes, a table, a condition with its truth.
 // A Text has the place of its bytes in the image, and how many they are.
-#[derive(Drop)]
+#[derive(Clone, Copy)]
 pub enum Node {
     Empty,
     Byte(u8),
@@ -59,7 +59,7 @@ pub fn node_of(word: u32) -> Node
 }
 
 // Whether a single byte is asked for, and the least and the greatest that is taken; 0 and 0 where none is asked for.
-#[derive(Drop)]
+#[derive(Clone, Copy)]
 pub struct Span {
     pub one: bool,
     pub lo: u8,

@@ -10,7 +10,7 @@ use crate::operands::word_at;
 use reader::number::{Number, Read, Refusal};
 
 // The numbers that an image begins with, and the place after them.
-#[derive(Drop)]
+#[derive(Clone, Copy)]
 pub struct Head {
     pub tables: u32,
     pub conditions: u32,
@@ -19,14 +19,14 @@ pub struct Head {
     pub next: usize,
 }
 
-#[derive(Drop)]
+#[derive(Clone, Copy)]
 pub enum Header {
     Found(Head),
     Refused(Refusal),
 }
 
 // What an image was found to be: good, with T, C, N and its start node, or refused.
-#[derive(Drop)]
+#[derive(Clone, Copy)]
 pub enum Loaded {
     Good(u32, u32, u32, u32),
     Refused(Refusal),
@@ -159,7 +159,7 @@ pub fn load(image: &[u8], code: &mut [u32; 524]) -> Loaded
 }
 
 // What is said of an image: 0 and 0 if it is good, else the number and the place of the first fault.
-#[derive(Drop)]
+#[derive(Clone, Copy)]
 pub struct Verdict {
     pub number: u32,
     pub place: u32,

@@ -5,14 +5,14 @@ ghost use Rattle.index.specs.Listed.{names_at, Ascending, Seeks, put_in, Keeps};
 use crate::order::order_at;
 
 // Where a name stands, or where it belongs if it is not here.
-#[derive(Drop)]
+#[derive(Clone, Copy)]
 pub struct Sought {
     pub index: usize,
     pub here: bool,
 }
 
 // How many names there are now, where the name stands, and whether it is fresh among them.
-#[derive(Drop)]
+#[derive(Clone, Copy)]
 pub struct Kept {
     pub count: usize,
     pub index: usize,

@@ -4,7 +4,7 @@ ghost use Rattle.kinds.specs.Held.{env_of, hiding};
 ghost use Rattle.meaning.specs.State.{switch};
 
 // The truth of each condition; for each table how many symbols were held when its innermost Local was entered.
-#[derive(Drop)]
+#[derive(Clone, Copy)]
 pub struct State {
     pub truths: [bool; 8],
     pub floors: [u16; 8],

@@ -4,7 +4,7 @@ ghost use Rattle.notation.specs.Bytes.{blank};
 ghost use Rattle.lexer.specs.Gaps.{Stepped, Skips, Without, Further};
 
 // The place behind a gap; or the place of the `/*` that nothing closes.
-#[derive(Drop)]
+#[derive(Clone, Copy)]
 pub enum Gap {
     At(usize),
     Open(usize),

@@ -6,7 +6,7 @@ ghost use Rattle.lexer.specs.Names.{within, goes_on, NameEnds, Finds};
 use crate::gap::{Gap, gap_from};
 
 // Where the name behind a gap begins and the place behind it; or none stands there.
-#[derive(Drop)]
+#[derive(Clone, Copy)]
 pub(crate) enum Name {
     At { start: usize, next: usize },
     Nothing,

@@ -11,7 +11,7 @@ use crate::word::word_at;
 use chars::written::End;
 
 // Whether a condition is asked to hold, and the place behind that; or a comment before it is open.
-#[derive(Drop)]
+#[derive(Clone, Copy)]
 enum Truth {
     Is { truth: bool, next: usize },
     Open,

@@ -14,7 +14,7 @@ use chars::written::End;
 // kind: 0 the text's end, 1 `Name =`, 2 `>`, 3 `)`, 4 `/`, 5 what holds no expression, 6 what opens an operator in angle brackets, 7 `(`, 8 `&`, 9 `!`, 10 a suffix,
 // 11 no token. symbol: which of its kind, by the number of the symbol that it puts out (`Symbols.kind`). truth: of a condition. start: where it
 // begins. name: where its name does, if it has one. next: the place behind it, or behind a gap that follows.
-#[derive(Drop)]
+#[derive(Clone, Copy)]
 pub struct Token {
     pub kind: u8,
     pub symbol: u8,

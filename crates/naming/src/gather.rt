@@ -13,7 +13,7 @@ use index::list::keep;
 use lexer::token::{Token, token_from};
 
 // How many names there are; where the first one stands that an earlier token has named already, and the first with which there are nine.
-#[derive(Drop)]
+#[derive(Clone, Copy)]
 pub struct Gathered {
     pub count: usize,
     pub again: Found,

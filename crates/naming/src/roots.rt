@@ -11,7 +11,7 @@ use index::list::seek;
 use lexer::token::token_from;
 
 // All nodes, and the first production's own.
-#[derive(Drop)]
+#[derive(Clone, Copy)]
 pub struct Counted {
     pub nodes: usize,
     pub start: usize,

@@ -5,7 +5,7 @@ ghost use Rattle.parts.specs.Packed.{packed, atOf, heldOf, steps_of, depth_of, o
 
 // Passed, at a place and with so many symbols held; failed; or refused, with a number and a place. With the steps spent and the greatest
 // depth entered so far.
-#[derive(Drop)]
+#[derive(Clone, Copy)]
 pub enum Outcome {
     Passed {
         at: u32,

@@ -6,7 +6,7 @@ use crate::contents::same_contents;
 use walker::walk::{inside, next};
 
 // Whether two expressions are alike as read, and if they are, how many defs begin inside.
-#[derive(Drop)]
+#[derive(Clone, Copy)]
 pub enum Likeness {
     Unlike,
     Same(usize),

@@ -31,7 +31,7 @@ fn is_def(t: Token) -> bool
 
 // What holding a def to the one before it of its table gives: how many tables there are now and how many of the next defs are passed over, or that
 // it is not alike.
-#[derive(Drop)]
+#[derive(Clone, Copy)]
 pub(crate) enum Held {
     On(usize, usize),
     Unlike,

@@ -4,21 +4,21 @@ ghost use Rattle.format.specs.Number.{number_at, second, third};
 ghost use Rattle.reader.specs.Meant.{reading};
 
 // A number and the place after it. Its own place is the one that it was asked for at: where the reader stood.
-#[derive(Drop)]
+#[derive(Clone, Copy)]
 pub struct Number {
     pub value: u32,
     pub next: usize,
 }
 
 // The number of a refusal, and its place in the image.
-#[derive(Drop)]
+#[derive(Clone, Copy)]
 pub struct Refusal {
     pub number: u32,
     pub place: usize,
 }
 
 // What stands at a place of an image.
-#[derive(Drop)]
+#[derive(Clone, Copy)]
 pub enum Read {
     Got(Number),
     Refused(Refusal),

@@ -7,7 +7,7 @@ ghost use Rattle.reader.specs.Meant.{reading, behind, moved};
 use crate::number::{Read, number_at};
 
 // An image, and the place where the next number is due.
-#[derive(Drop)]
+#[derive(Clone, Copy)]
 pub struct Reader<'a> {
     pub image: &'a [u8],
     pub at: usize,

@@ -7,7 +7,7 @@ ghost use Rattle.std.specs.Prelude.{◌≡◌, ◌+◌, ◌<◌, max};
 ghost use Rattle.tally.specs.Charged.{charged};
 
 // The steps charged so far, and the greatest depth entered so far.
-#[derive(Drop)]
+#[derive(Clone, Copy)]
 pub struct Tally {
     pub steps: u32,
     pub depth: u32,

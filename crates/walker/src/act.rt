@@ -3,7 +3,7 @@ ghost use Rattle.std.specs.Prelude.{◌≡◌, true, List, ℕ, ◌+◌, ◌<◌
 ghost use Rattle.walker.specs.Acts.{Acts, latest, entry_of, closes_from, pushed_by};
 
 // What is done: the latest that is open is closed; the front token is taken, which leaves this mode and this many open; or the walk is over, at its end or broken.
-#[derive(Drop)]
+#[derive(Clone, Copy)]
 pub(crate) enum Act {
     Pop,
     Shift(u8, usize),

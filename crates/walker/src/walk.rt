@@ -11,7 +11,7 @@ use crate::act::{Act, one_act, shuts};
 use lexer::token::{Token, token_from};
 
 // mode: 0 before the first production, 1 where an item must begin, 2 behind a primary. height: how much is open, in the front of the stack. token: the next one.
-#[derive(Drop)]
+#[derive(Clone, Copy)]
 pub struct Walk {
     pub mode: u8,
     pub height: usize,
@@ -20,7 +20,7 @@ pub struct Walk {
 
 // symbol: 0 to 21 as `Symbols.kind` numbers them, 30 none, 40 where the walk has ended, 41 where it is broken. token: the one that was taken for it; any, where it
 // closes what is open. walk: what is left of the walk.
-#[derive(Drop)]
+#[derive(Clone, Copy)]
 pub struct Step {
     pub symbol: u8,
     pub token: Token,
@@ -28,7 +28,7 @@ pub struct Step {
 }
 
 // Whether a text is of the notation, and if not, where its reading stops.
-#[derive(Drop)]
+#[derive(Clone, Copy)]
 pub enum Reading {
     Whole,
     Stopped(usize),

@@ -7,7 +7,7 @@ ghost use Rattle.writer.specs.Put.{Room, Adds};
 use crate::out::{put_number, put_two};
 
 // How many nodes were written, and how many bytes they take.
-#[derive(Drop)]
+#[derive(Clone, Copy)]
 pub struct Made {
     pub nodes: usize,
     pub length: usize,

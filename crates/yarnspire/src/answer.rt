@@ -1,7 +1,7 @@
 // What check and recognise answer.
 
 // An image is good, or refused with the number and the place of its first fault.
-#[derive(Drop)]
+#[derive(Clone, Copy)]
 pub enum Verdict {
     Good,
     Refused { number: u32, place: u32 },
@@ -9,7 +9,7 @@ pub enum Verdict {
 
 // Accepted, with how many bytes of the input and how many symbols the slots then hold; failed; or refused, with a number from 1 to 15 and a
 // place. Each with the steps and the greatest depth, as far as charged.
-#[derive(Drop)]
+#[derive(Clone, Copy)]
 pub enum Answer {
     Accepted {
         consumed: u32,
