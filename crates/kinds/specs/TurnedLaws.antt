@@ -25,6 +25,7 @@ restored_stops held at_failed = refl
 restored_stops held at_refused = refl
 
 pub negated_stops : {o : Outcome} (at held : ℕ) → Stops o → Stays o → o ≡ negated_of at held o
+negated_stops at held (at_failed {s = s} {d = d}) x = elim x [ ]
 negated_stops at held at_refused on_refused = refl
 
 pub compared_stops : {o : Outcome} (test : ℕ → Bool) (held : ℕ) → Stops o → o ≡ compared_of test held o
