@@ -18,8 +18,8 @@ use Rattle.format.specs.ImageLaws.{number_below}
 use Rattle.reader.specs.Meant.{reading}
 
 -- What was refused is refused, whatever would follow.
-pub stays : (r : Read) → tag_of the_type r ≡ 1 → (k : ℕ → ℕ → Reading ℕ) {x : Reading ℕ} → reading r ≡ x → reading r ≡ (x then k)
-stays (Got n) t k e = absurd (omega arith)
+pub stays : (r : Read) → ((n : Number) → r ≡ Got n → ⊥) → (k : ℕ → ℕ → Reading ℕ) {x : Reading ℕ} → reading r ≡ x → reading r ≡ (x then k)
+stays (Got n) t k e = absurd (t n refl)
 stays (Refused f) t k e = onward k e
 
 -- What was got is read on from.

@@ -15,7 +15,7 @@ loop-i-init c = let a = c.args in
 pub returns-in_default : goal.returns-in_default
 returns-in_default c = let a = c.args in
     refused_at (word_at a.image.now a.tables a.conditions a.nodes) 0 a.nodes c.loop-i.invariant (omega arith)
-    c.word_at-r.result c.in_default.in_default-own.keys2 c.word_at-r.ensures
+    c.word_at-r.result c.in_default.not-Got c.word_at-r.ensures
 
 pub loop-i-preserved : goal.loop-i-preserved
 loop-i-preserved c = let a = c.args in

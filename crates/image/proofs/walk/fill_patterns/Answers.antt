@@ -14,7 +14,7 @@ loop-t-init c = let a = c.args in filling_starts (λ t. bounded a.image.now 7 0 
 pub returns-in_default : goal.returns-in_default
 returns-in_default c = let a = c.args in
     refused_at (λ t. bounded a.image.now 7 0 a.nodes) 512 a.tables c.loop-t.invariant (omega arith) c.bounded-r.result
-    c.in_default.in_default-own.keys2 c.bounded-r.ensures
+    c.in_default.not-Got c.bounded-r.ensures
 
 pub loop-t-preserved : goal.loop-t-preserved
 loop-t-preserved c = let a = c.args in

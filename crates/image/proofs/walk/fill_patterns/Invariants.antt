@@ -9,7 +9,7 @@ use Rattle.format.specs.Image.{bounded}
 use Rattle.image.proofs.walk.fill_patterns.Given as goal
 
 abbrev pub invariant-loop-t : goal.invariant-loop-t
-invariant-loop-t l = Filling (λ l.t. bounded l.image 7 0 l.nodes) 512 l.tables l.start l.initial.code l.code l.t l.at
+invariant-loop-t l = Filling (λ t. bounded l.image 7 0 l.nodes) 512 l.tables l.start l.initial.code l.code l.t l.at
 
 abbrev pub decreases-loop-t : goal.decreases-loop-t
 decreases-loop-t l = l.tables - l.t
