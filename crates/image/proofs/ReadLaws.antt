@@ -2,17 +2,13 @@
 use Prim.Native.Nat.{ℕ, ◌<◌, ◌≤◌}
 use mathlib.Core.Path.{◌≡◌, refl, ap, sym, ◌∙◌}
 use mathlib.Core.List.{List}
-use native.Mathlib.Omega.{arith}
 use borrow.Author.Tests.{lt-ltb, le-ltb, le-leb, lt-leb}
-use denote.Enum.Declared.{tag_of}
-use Rattle.reader.specs.contracts.number.Read.{the_type}
 use Rattle.reader.specs.declared.number.Number.{Number}
 use Rattle.reader.specs.declared.number.Refusal.{Refusal}
 use Rattle.reader.specs.declared.number.Read.{Read}
 use Rattle.reader.specs.declared.number.Read.TheVariants.{Got, Refused}
 use Rattle.format.specs.Reading.{Reading, got, fault, pick, ◌then◌}
 use Rattle.format.specs.ReadingLaws.{onward}
-use Rattle.format.specs.Number.{number_at}
 use Rattle.format.specs.Image.{inside, bounded}
 use Rattle.format.specs.ImageLaws.{number_below}
 use Rattle.reader.specs.Meant.{reading}

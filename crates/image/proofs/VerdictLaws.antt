@@ -1,11 +1,9 @@
 -- From what the walk says to what check says.
 use Prim.Native.Nat.{ℕ, ◌≤◌}
-use mathlib.Core.Path.{◌≡◌, refl, ap, sym, ◌∙◌}
+use mathlib.Core.Path.{◌≡◌, refl, ap}
 use mathlib.Core.List.{List}
 use native.Mathlib.Omega.{arith}
-use denote.Enum.Declared.{tag_of}
 use Rattle.grammar.specs.Sound.{Bytes}
-use Rattle.image.specs.contracts.walk.Loaded.{the_type}
 use Rattle.reader.specs.declared.number.Refusal.{Refusal}
 use Rattle.image.specs.declared.walk.Loaded.{Loaded}
 use Rattle.image.specs.declared.walk.Loaded.TheVariants.{Good, Refused}

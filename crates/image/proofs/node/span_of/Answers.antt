@@ -2,15 +2,9 @@
 use Prim.Native.Nat.{ℕ}
 use mathlib.Core.Path.{◌≡◌, refl, ap, sym}
 use mathlib.Core.Bool.{false}
-use mathlib.Core.List.{List, [], ◌∷◌}
-use types.Run.{OneOf, miss}
-use denote.Enum.Declared.{tag_of}
-use Rattle.image.specs.declared.node.Span.{Span}
 use Rattle.image.specs.declared.node.Node.{Node}
 use Rattle.image.specs.declared.node.Node.TheVariants.{Empty, Byte, Range, Any, Text, Sequence, Choice, Star, Not, Call, Def, Match, Is, Isa, Exists, Block, Local, If, On}
 use Rattle.image.specs.Node.{span_of}
-use Rattle.image.specs.contracts.node.Node.{the_type}
-use borrow.Author.Rules.{rules}
 use Rattle.image.proofs.node.span_of.Goals as goal
 
 -- The kinds that are not named: none asks for a single byte.

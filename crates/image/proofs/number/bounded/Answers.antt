@@ -2,7 +2,6 @@
 use mathlib.Core.Path.{◌∙◌}
 use native.Mathlib.Omega.{arith}
 use Rattle.image.proofs.ReadLaws.{stays, goes, judged, too_low, fits, too_high}
-use borrow.Author.Rules.{rules}
 use Rattle.image.proofs.number.bounded.Goals as goal
 
 pub returns-in_default : goal.returns-in_default

@@ -5,7 +5,6 @@ use Rattle.image.proofs.ReadLaws.{stays, goes}
 use Rattle.image.proofs.ShapeLaws.{switch_below}
 use Rattle.format.specs.Reading.{got}
 use Rattle.image.specs.Shapes.{word1}
-use borrow.Author.Rules.{rules}
 use Rattle.image.proofs.operands.if_operands.Goals as goal
 
 pub returns-in_default : goal.returns-in_default

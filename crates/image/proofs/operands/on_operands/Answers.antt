@@ -5,7 +5,6 @@ use Rattle.image.proofs.ReadLaws.{stays, goes, under}
 use Rattle.image.proofs.ShapeLaws.{switch_below}
 use Rattle.format.specs.Reading.{got}
 use Rattle.image.specs.Shapes.{word2, last_at}
-use borrow.Author.Rules.{rules}
 use Rattle.image.proofs.operands.on_operands.Goals as goal
 
 pub returns-in_default : goal.returns-in_default

@@ -4,7 +4,6 @@ use native.Mathlib.Omega.{arith}
 use Rattle.image.proofs.ReadLaws.{stays, goes, under}
 use Rattle.format.specs.Reading.{got}
 use Rattle.image.specs.Shapes.{word1}
-use borrow.Author.Rules.{rules}
 use Rattle.image.proofs.operands.one_operand.Goals as goal
 
 pub returns-in_default : goal.returns-in_default

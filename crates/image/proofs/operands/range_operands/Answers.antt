@@ -4,7 +4,6 @@ use native.Mathlib.Omega.{arith}
 use Rattle.image.proofs.ReadLaws.{stays, goes, under}
 use Rattle.format.specs.Reading.{got}
 use Rattle.image.specs.Shapes.{word2, high_at}
-use borrow.Author.Rules.{rules}
 use Rattle.image.proofs.operands.range_operands.Goals as goal
 
 pub returns-in_default : goal.returns-in_default

@@ -1,9 +1,8 @@
 -- `switch` meets its promise. Assumes nothing.
-use mathlib.Core.Path.{ap, ◌∙◌}
+use mathlib.Core.Path.{◌∙◌}
 use native.Mathlib.Omega.{arith}
 use Rattle.image.proofs.ReadLaws.{stays, goes, under}
 use Rattle.image.specs.Shapes.{switched, truth_of}
-use borrow.Author.Rules.{rules}
 use Rattle.image.proofs.operands.switch.Goals as goal
 
 pub returns-in_default : goal.returns-in_default

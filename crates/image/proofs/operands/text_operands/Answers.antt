@@ -6,7 +6,6 @@ use Rattle.image.proofs.ShapeLaws.{bytes_cut, bytes_there}
 use Prim.Native.Nat.{◌+◌}
 use Rattle.format.specs.Reading.{got}
 use Rattle.image.specs.Shapes.{bytes_at}
-use borrow.Author.Rules.{rules}
 use Rattle.image.proofs.operands.text_operands.Goals as goal
 
 pub returns-in_default : goal.returns-in_default

@@ -12,7 +12,6 @@ use Rattle.reader.specs.Meant.{reading}
 use Rattle.reader.specs.declared.number.Number.{Number}
 use Rattle.reader.specs.declared.number.Read.{Read}
 use Rattle.reader.specs.declared.number.Read.TheVariants.{Got}
-use borrow.Author.Rules.{rules}
 use Rattle.image.proofs.operands.word_at.Goals as goal
 
 -- What is read after the tag is what is read at the place.

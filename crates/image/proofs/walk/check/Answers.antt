@@ -4,7 +4,6 @@ use native.Mathlib.Omega.{arith}
 use Rattle.image.proofs.VerdictLaws.{says_good, says_refused, place_small}
 use Rattle.format.specs.Image.{read_image}
 use Rattle.image.specs.Meant.{verdict}
-use borrow.Author.Rules.{rules}
 use Rattle.image.proofs.walk.check.Goals as goal
 
 pub overflow_cast-result : goal.overflow_cast-result

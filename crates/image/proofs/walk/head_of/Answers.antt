@@ -10,7 +10,6 @@ use Rattle.reader.specs.Meant.{reading}
 use Rattle.reader.specs.declared.number.Number.{Number}
 use Rattle.reader.specs.declared.number.Read.{Read}
 use Rattle.reader.specs.declared.number.Read.TheVariants.{Got}
-use borrow.Author.Rules.{rules}
 use Rattle.image.proofs.walk.head_of.Goals as goal
 
 -- What is read from each number on is what is read from the start.

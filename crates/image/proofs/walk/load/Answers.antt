@@ -1,7 +1,6 @@
 -- `load` meets its promise: by how far the walk came. Assumes nothing.
 use mathlib.Core.Path.{◌≡◌, ap, sym, ◌∙◌}
 use native.Mathlib.Omega.{arith}
-use Rattle.grammar.specs.Sound.{Bytes}
 use Rattle.image.proofs.HeadLaws.{found, few}
 use Rattle.image.proofs.WalkLaws.{promised, putting, too_long, no_head, no_patterns, no_nodes, left_over, all_good}
 use Rattle.format.specs.Image.{head_at}
@@ -14,7 +13,6 @@ use Rattle.image.specs.declared.walk.Head.{Head}
 use Rattle.image.specs.declared.walk.Header.{Header}
 use Rattle.image.specs.declared.walk.Header.TheVariants.{Found}
 use Rattle.image.specs.Word.{word_at}
-use borrow.Author.Rules.{rules}
 use Rattle.image.proofs.walk.load.Goals as goal
 
 -- The head that was found.
