@@ -11,7 +11,7 @@ pub seek-sought-requires : goal.seek-sought-requires
 seek-sought-requires c = (omega arith, c.requires.0.ordered)
 
 pub offset_bounds-roots-index : goal.offset_bounds-roots-index
-offset_bounds-roots-index c = omega (arith, seeks_inside c.seek-sought.ensures c.requires.0.named, c.requires.0.long, c.well-formed)
+offset_bounds-roots-index c = omega (arith, seeks_inside c.seek-sought.ensures c.requires.0.named, c.requires.0.long, c.well_formed)
 
 pub bounds-roots-index : goal.bounds-roots-index
 bounds-roots-index c = omega (arith, seeks_inside c.seek-sought.ensures c.requires.0.named, c.requires.0.long)

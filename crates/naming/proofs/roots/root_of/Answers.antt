@@ -10,7 +10,7 @@ pub seek-sought-requires : goal.seek-sought-requires
 seek-sought-requires c = (omega arith, c.requires.ordered)
 
 pub offset_bounds-roots-index : goal.offset_bounds-roots-index
-offset_bounds-roots-index c = omega (arith, seeks_inside c.seek-sought.ensures c.requires.named, c.well-formed)
+offset_bounds-roots-index c = omega (arith, seeks_inside c.seek-sought.ensures c.requires.named, c.well_formed)
 
 pub bounds-roots-index : goal.bounds-roots-index
 bounds-roots-index c = omega (arith, seeks_inside c.seek-sought.ensures c.requires.named, c.requires.long)

@@ -17,6 +17,10 @@ use Rattle.naming.proofs.StepLaws.{goes_on, name_is}
 use Rattle.naming.proofs.WhereLaws.{Still, still_past, still_here, still_over}
 use Rattle.naming.proofs.undefined.first_undefined.Given as goal
 
+-- The test at a text and its lists.
+abbrev pub lacks : (text heads tables : List ℕ) → Token → Bool
+lacks text heads tables = undefined (names_at text heads (length heads)) (names_at text tables (length tables))
+
 abbrev pub invariant-loop-t : goal.invariant-loop-t
 invariant-loop-t l = (l.at ≤ length l.text) × Still (lacks l.text l.heads l.tables) (namePlace l.text) (lexemes l.text) (lexemes (drop l.at l.text))
 
