@@ -1,13 +1,12 @@
 -- `over_nodes` meets its promise. The loop's invariant: no production that has ended is past the limit, and what is still to come, with what is
 -- open, has the first that is. The measure is what is left of the text. Assumes nothing.
-use Prim.Native.Nat.{ℕ, ◌-◌, ◌≤◌, ◌<◌}
+use Prim.Native.Nat.{ℕ}
 use mathlib.Core.Path.{◌≡◌, ap, sym, ◌∙◌}
 use mathlib.Core.Bool.{false}
 use mathlib.Core.List.{List, ◌∷◌}
 use native.Mathlib.Omega.{arith}
-use borrow.Author.Rules.{rules}
 use lib.Dec.{ltb}
-use lib.ListN.{length, drop}
+use lib.ListN.{drop}
 use Rattle.notation.specs.Lexer.{lexemes}
 use Rattle.notation.specs.Places.{namePlace}
 use Rattle.lexer.specs.Meant.{placed, Lexed}
@@ -74,9 +73,11 @@ pub overflow_add-weight : goal.overflow_add-weight
 overflow_add-weight c = let text = c.args.text.now in
     let L = c.token_from-t.ensures in
     let one = sym c.stops.ensures ∙ c.if-stops.false in
-    omega (arith,
+    omega (
+      arith,
       (weighing_token 512 (namePlace text) (lexemes text) (front L one c.loop-t.invariant.1)
-          (no_head text c.token_from-t.result c.if-kind-eq1.false) c.weight_of-weight.ensures).light)
+          (no_head text c.token_from-t.result c.if-kind-eq1.false) c.weight_of-weight.ensures).light,
+    )
 
 pub loop-t-preserved : goal.loop-t-preserved
 loop-t-preserved c = let text = c.args.text.now in

@@ -1,11 +1,10 @@
 -- `fill_roots` meets its promise. The loop's invariant: what is filled in and counted, with what is still to come, is what the whole text gives. The
 -- measure is what is left of the text. Assumes nothing.
-use Prim.Native.Nat.{ℕ, ◌+◌, ◌-◌, ◌≤◌, ◌<◌}
+use Prim.Native.Nat.{ℕ, ◌+◌}
 use mathlib.Core.Path.{◌≡◌, sym, ◌∙◌}
 use mathlib.Core.Bool.{true, false}
 use mathlib.Core.List.{List, [], ◌∷◌}
 use native.Mathlib.Omega.{arith}
-use borrow.Author.Rules.{rules}
 use lib.ListN.{length, drop}
 use Rattle.notation.specs.Tree.{Name}
 use Rattle.notation.specs.Token.{Lexeme}
@@ -17,7 +16,6 @@ use Rattle.index.specs.PlaceLaws.{names_length}
 use Rattle.lexer.specs.Meant.{meant, placed, Lexed}
 use Rattle.lexer.specs.declared.token.Token.{Token}
 use Rattle.naming.specs.Told.{stopped}
-use Rattle.naming.specs.Rooted.{Rootable}
 use Rattle.naming.proofs.StepLaws.{steps, goes_on, spelt, over}
 use Rattle.naming.proofs.HeadLaws.{name_of, head_is, head_name, no_head}
 use Rattle.naming.proofs.EndLaws.{Ended, endings}
@@ -131,6 +129,8 @@ loop-t-preserved c = let a = c.args in
 
 pub overflow_add-weight : goal.overflow_add-weight
 overflow_add-weight c = let a = c.args in
-    omega (arith,
+    omega (
+      arith,
       (behind a.text.now a.heads.now a.roots.now c.token_from-first.result c.loop-t.name c.loop-t.nodes c.loop-t.weight c.loop-t.roots c.token_from-t.result c.token_from-t.ensures
-          (sym c.stops.ensures ∙ c.if-stops.false) c.if-kind-eq1.false c.weight_of-weight.ensures c.loop-t.invariant.1).light)
+          (sym c.stops.ensures ∙ c.if-stops.false) c.if-kind-eq1.false c.weight_of-weight.ensures c.loop-t.invariant.1).light,
+    )

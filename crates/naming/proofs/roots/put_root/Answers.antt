@@ -2,7 +2,6 @@
 use Prim.Native.Nat.{◌-◌}
 use mathlib.Core.Path.{ap}
 use native.Mathlib.Omega.{arith}
-use borrow.Author.Rules.{rules}
 use lib.ListN.{set}
 use Rattle.naming.proofs.SeekLaws.{seeks_inside, seeks_place}
 use Rattle.naming.proofs.roots.put_root.Goals as goal

@@ -1,7 +1,6 @@
 -- `root_of` meets its promise. Assumes nothing.
 use mathlib.Core.Path.{ap, ◌∙◌}
 use native.Mathlib.Omega.{arith}
-use borrow.Author.Rules.{rules}
 use lib.ListN.{get_or}
 use Rattle.naming.proofs.SeekLaws.{seeks_inside, seeks_place}
 use Rattle.naming.proofs.roots.root_of.Goals as goal

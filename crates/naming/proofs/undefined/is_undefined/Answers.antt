@@ -3,7 +3,6 @@ use Prim.Native.Nat.{ℕ}
 use mathlib.Core.Path.{sym, ◌∙◌}
 use mathlib.Core.List.{List}
 use lib.ListN.{length}
-use borrow.Author.Rules.{rules}
 use Rattle.notation.specs.Tree.{Name}
 use Rattle.index.specs.Listed.{names_at}
 use Rattle.naming.proofs.UndefinedLaws.{call_told, ask_told, none_told}
