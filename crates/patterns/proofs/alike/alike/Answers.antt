@@ -1,15 +1,9 @@
 -- `alike` meets its promise. The loop's invariant: the two walks from here on come to what they come to from the start. The measure is what is to go
 -- of the first. Assumes nothing.
-use Prim.Native.Nat.{ℕ, ◌+◌, ◌≤◌}
+use Prim.Native.Nat.{◌+◌}
 use mathlib.Core.Path.{◌≡◌, sym, ◌∙◌}
-use mathlib.Core.Logic.{⊎_elim}
-use mathlib.Core.List.{List}
 use native.Mathlib.Omega.{arith}
-use lib.ListN.{length}
-use borrow.Author.Tests.{not-true, not-false}
-use Rattle.walker.specs.declared.walk.Step.{Step}
-use Rattle.walker.specs.Walks.{to_go, Nexts}
-use Rattle.patterns.proofs.BesideLaws.{Beside, one_def, one_more, none_more, beside_start, beside_more, shown, this_shown, goes_on, numbers_differ, both_ended, both_broken, contents_differ}
+use Rattle.patterns.proofs.BesideLaws.{one_def, one_more, none_more, beside_start, beside_more, shown, this_shown, goes_on, numbers_differ, both_ended, both_broken, contents_differ}
 use Rattle.patterns.proofs.alike.alike.Goals.{then-symbol-eq10, else-symbol-eq10}
 use Rattle.patterns.proofs.alike.alike.Goals as goal
 

@@ -1,10 +1,8 @@
 -- `same_contents` meets its promise. Assumes nothing.
 use Prim.Native.Nat.{ℕ}
 use mathlib.Core.Path.{◌≡◌, ◌∙◌}
-use mathlib.Core.Logic.{inl, inr}
 use mathlib.Core.List.{List}
 use native.Mathlib.Omega.{arith}
-use borrow.Author.Rules.{rules}
 use Rattle.chars.specs.Meant.{QuotedAt, ClassAt}
 use Rattle.lexer.specs.declared.token.Token.{Token}
 use Rattle.naming.proofs.StepLaws.{spelt}

@@ -1,5 +1,4 @@
 -- `same_name` meets its promise. Assumes nothing.
-use borrow.Author.Rules.{rules}
 use Rattle.notation.specs.At.{name_at}
 use Rattle.patterns.proofs.ContentsLaws.{told_same}
 use Rattle.patterns.proofs.contents.same_name.Goals as goal

@@ -1,6 +1,5 @@
 -- `same_switch` meets its promise. Assumes nothing.
 use mathlib.Core.Path.{◌∙◌}
-use borrow.Author.Rules.{rules}
 use Rattle.notation.specs.At.{name_at}
 use Rattle.patterns.proofs.ContentsLaws.{truths_differ, truths_agree}
 use Rattle.patterns.proofs.contents.same_switch.Goals as goal

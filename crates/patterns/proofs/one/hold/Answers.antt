@@ -1,11 +1,9 @@
 -- `hold` meets its promise. Assumes nothing.
 use Prim.Native.Nat.{ℕ, ◌≤◌, ◌<◌}
 use mathlib.Core.Path.{◌≡◌, subst}
-use mathlib.Core.Bool.{false}
 use mathlib.Core.List.{List}
 use native.Mathlib.Omega.{arith}
-use lib.ListN.{length, get_or}
-use borrow.Author.Rules.{rules}
+use lib.ListN.{length}
 use lib.ListN.{drop}
 use mathlib.Core.List.{◌∷◌}
 use Rattle.index.specs.declared.list.Kept.{Kept}

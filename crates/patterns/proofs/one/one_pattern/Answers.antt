@@ -4,12 +4,12 @@ use Prim.Native.Nat.{ℕ, ◌-◌, ◌≤◌, ◌<◌}
 use mathlib.Core.Path.{◌≡◌, sym, subst, ◌∙◌}
 use mathlib.Core.List.{List}
 use native.Mathlib.Omega.{arith}
-use lib.ListN.{length, drop}
+use lib.ListN.{length}
 use borrow.Author.Rules.{rules}
 use Rattle.notation.specs.Token.{Lexeme}
 use Rattle.lexer.specs.declared.token.Token.{Token}
 use Rattle.lexer.specs.Meant.{Lexed}
-use Rattle.patterns.specs.Passed.{defs_of, Passes, Holds}
+use Rattle.patterns.specs.Passed.{Passes, Holds}
 use Rattle.patterns.proofs.OneLaws.{both_numbers, end_left, bad_left, def_left, other_left, passes_start, passes_end, at_fault}
 use Rattle.patterns.proofs.one.one_pattern.Goals as goal
 

@@ -1,16 +1,9 @@
 -- `one_pattern` meets its promise. The loop's invariant: the pass has come to the defs from here on. The measure is what is left of the text.
 -- Assumes nothing.
-use Prim.Native.Nat.{ℕ, ◌-◌, ◌≤◌, ◌<◌}
-use mathlib.Core.Path.{◌≡◌, sym, subst, ◌∙◌}
-use mathlib.Core.List.{List}
-use native.Mathlib.Omega.{arith}
+use Prim.Native.Nat.{◌-◌, ◌≤◌}
+use mathlib.Core.Path.{◌≡◌}
 use lib.ListN.{length, drop}
-use borrow.Author.Rules.{rules}
-use Rattle.notation.specs.Token.{Lexeme}
-use Rattle.lexer.specs.declared.token.Token.{Token}
-use Rattle.lexer.specs.Meant.{Lexed}
-use Rattle.patterns.specs.Passed.{defs_of, Passes, Holds}
-use Rattle.patterns.proofs.OneLaws.{both_numbers, end_left, bad_left, def_left, other_left, passes_start, passes_end, at_fault}
+use Rattle.patterns.specs.Passed.{defs_of, Passes}
 use Rattle.patterns.proofs.one.one_pattern.Given as goal
 
 abbrev pub invariant-loop-latest : goal.invariant-loop-latest
