@@ -15,15 +15,15 @@ use Rattle.writer.proofs.leaf.add_leaf.Goals as goal
 pub add_tag-requires : goal.add_tag-requires
 add_tag-requires c =
     let a = c.args in
-    room_as (ap leaf_count (leaf_any a.text.now a.t c.in-1.is)) c.requires.t_value.1
+    room_as (ap leaf_count (leaf_any a.text.now a.t c.in-1.is)) c.requires.room.1
 
 pub add_quoted-requires : goal.add_quoted-requires
 add_quoted-requires c =
     let a = c.args in
     let e = c.in-2.is in (
       taken_quoted a.text.now a.t c.requires.ascending.2 e,
-      short_quoted a.text.now a.t e c.requires.t_value.0,
-      room_as (ap leaf_count (leaf_quoted a.text.now a.t e)) c.requires.t_value.1,
+      short_quoted a.text.now a.t e c.requires.room.0,
+      room_as (ap leaf_count (leaf_quoted a.text.now a.t e)) c.requires.room.1,
     )
 
 pub add_class-requires : goal.add_class-requires
@@ -31,23 +31,23 @@ add_class-requires c =
     let a = c.args in
     let e = c.in-3.is in
     let k = taken_class a.text.now a.t c.requires.ascending.2 e in
-    (k.0, k.1, room_as (ap leaf_count (leaf_class a.text.now a.t e)) c.requires.t_value.1)
+    (k.0, k.1, room_as (ap leaf_count (leaf_class a.text.now a.t e)) c.requires.room.1)
 
 pub add_one-requires : goal.add_one-requires
 add_one-requires c =
     let a = c.args in
-    room_as (ap leaf_count (leaf_call a.text.now a.t c.in-4.is)) c.requires.t_value.1
+    room_as (ap leaf_count (leaf_call a.text.now a.t c.in-4.is)) c.requires.room.1
 
 pub add_two-requires : goal.add_two-requires
 add_two-requires c =
     let a = c.args in
-    room_as (ap leaf_count (leaf_if a.text.now a.t c.in-9.is)) c.requires.t_value.1
+    room_as (ap leaf_count (leaf_if a.text.now a.t c.in-9.is)) c.requires.room.1
 
 pub add_one-requires-in_default : goal.add_one-requires-in_default
 add_one-requires-in_default c =
     let a = c.args in
     let n = asking a.t.symbol (c.requires.ascending.2.lexed.numbers.1 c.requires.ascending.2.kind) (λ z. omega arith) (λ z. omega arith) (λ z. omega arith) (λ z. omega arith) (λ z. omega arith) in
-    room_as (ap leaf_count (leaf_query a.text.now a.t n.0 n.1).1) c.requires.t_value.1
+    room_as (ap leaf_count (leaf_query a.text.now a.t n.0 n.1).1) c.requires.room.1
 
 pub returns-in-1 : goal.returns-in-1
 returns-in-1 c =
