@@ -1,5 +1,4 @@
 -- `first_of` meets its promise. Assumes nothing.
-use borrow.Author.Rules.{rules}
 use Rattle.naming.proofs.found.first_of.Goals as goal
 
 pub returns-then-holds : goal.returns-then-holds

@@ -1,5 +1,4 @@
 -- `add` meets its promise. Assumes nothing.
-use borrow.Author.Rules.{rules}
 use Rattle.naming.proofs.GatherLaws.{adds}
 use Rattle.naming.proofs.gather.add.Goals as goal
 

@@ -1,5 +1,4 @@
 -- `is_of` meets its promise. Assumes nothing.
-use borrow.Author.Rules.{rules}
 use borrow.Author.Tests.{eq-eqb, ne_eqb}
 use Rattle.naming.proofs.gather.is_of.Goals as goal
 

@@ -1,18 +1,10 @@
 -- `first_long` meets its promise. The loop's invariant: what is still to come has the first token of which the test holds. The measure is what
 -- is left of the text. Assumes nothing.
-use Prim.Native.Nat.{ℕ, ◌-◌, ◌≤◌}
-use mathlib.Core.Path.{◌≡◌, refl, sym, ◌∙◌}
-use mathlib.Core.Bool.{false}
-use mathlib.Core.List.{List}
-use native.Mathlib.Omega.{arith}
-use borrow.Author.Rules.{rules}
+use Prim.Native.Nat.{◌-◌, ◌≤◌}
 use lib.ListN.{length, drop}
 use Rattle.notation.specs.Lexer.{lexemes}
-use Rattle.notation.specs.Naming.{all}
 use Rattle.notation.specs.Places.{token_place, long}
-use Rattle.naming.specs.Told.{stopped}
-use Rattle.naming.proofs.StepLaws.{goes_on, place_is, spelt}
-use Rattle.naming.proofs.WhereLaws.{Still, still_past, still_here, still_over}
+use Rattle.naming.proofs.WhereLaws.{Still}
 use Rattle.naming.proofs.long.first_long.Given as goal
 
 abbrev pub invariant-loop-t : goal.invariant-loop-t

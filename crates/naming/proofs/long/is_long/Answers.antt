@@ -1,7 +1,6 @@
 -- `is_long` meets its promise. Assumes nothing.
 use mathlib.Core.Path.{ap, sym, ◌∙◌}
 use lib.Dec.{ltb}
-use borrow.Author.Rules.{rules}
 use Rattle.naming.proofs.LeafLaws.{quoted_at, long_told, short_told}
 use Rattle.naming.proofs.long.is_long.Goals as goal
 

@@ -1,13 +1,12 @@
 -- `over_nodes` meets its promise. The loop's invariant: no production that has ended is past the limit, and what is still to come, with what is
 -- open, has the first that is. The measure is what is left of the text. Assumes nothing.
-use Prim.Native.Nat.{ℕ, ◌-◌, ◌≤◌, ◌<◌}
+use Prim.Native.Nat.{ℕ}
 use mathlib.Core.Path.{◌≡◌, ap, sym, ◌∙◌}
 use mathlib.Core.Bool.{false}
 use mathlib.Core.List.{List, ◌∷◌}
 use native.Mathlib.Omega.{arith}
-use borrow.Author.Rules.{rules}
 use lib.Dec.{ltb}
-use lib.ListN.{length, drop}
+use lib.ListN.{drop}
 use Rattle.notation.specs.Lexer.{lexemes}
 use Rattle.notation.specs.Places.{namePlace}
 use Rattle.lexer.specs.Meant.{placed, Lexed}
@@ -20,29 +19,11 @@ use Rattle.naming.proofs.OverLaws.{Weighing, weighing_all, weighing_token, weigh
 use Rattle.naming.proofs.nodes.over_nodes.Goals as goal
 
 -- The token that the loop looks at, in front of what is still to come.
-module _ (c : tie.Else1 invariant-loop decreases-loop) where
-  abbrev here : tie.At-loop invariant-loop decreases-loop
-  here = c.before.before.before
-
-  abbrev text : List ℕ
-  text = here.before.before.args.text.now
-
-  abbrev t : Token
-  t = c.before.before.token-from.result
-
-  L : Lexed text here.loop.at t
-  L = c.before.before.token-from.ensures
-
-  one : stopped t.kind ≡ false
-  one = sym c.before.stops.ensures ∙ c.if1.false
-
-  on : (here.loop.at < t.next) × (t.next ≤ length text)
-  on = goes_on L one here.loop.inv.0
-
-  front :
-      Weighing 512 (namePlace text) (lexemes text) here.loop.name here.loop.nodes here.loop.weight
-      (placed text t ∷ lexemes (drop t.next text))
-  front = rw (steps L one) at here.loop.inv.1
+front :
+    {text : List ℕ} {at : ℕ} {t : Token} {name nodes weight : ℕ} (L : Lexed text at t) → stopped t.kind ≡ false
+    → Weighing 512 (namePlace text) (lexemes text) name nodes weight (lexemes (drop at text))
+    → Weighing 512 (namePlace text) (lexemes text) name nodes weight (placed text t ∷ lexemes (drop t.next text))
+front L one W = rw (steps L one) at W
 
 pub loop-t-init : goal.loop-t-init
 loop-t-init c = (omega arith, weighing_all 512 c.args.text.now (namePlace c.args.text.now) c.requires)
@@ -60,34 +41,49 @@ returns-then-stops c ps r = let text = c.args.text.now in
     ∙ weighing_end 512 (namePlace text) (lexemes text) W ∙ past_is r 512 (namePlace text)
 
 pub closed-nodes-requires : goal.closed-nodes-requires
-closed-nodes-requires c = omega (arith, (here c.before).loop.inv.1.light)
+closed-nodes-requires c = omega (arith, c.loop-t.invariant.1.light)
 
 pub returns-then-nodes-gt512 : goal.returns-then-nodes-gt512
-returns-then-nodes-gt512 c ps r = weighing_here 512 (namePlace (text s)) (lexemes (text s)) (front s) (head_is (text s) (t s) c.if-kind-eq1.true)
-    c.closed-nodes.ensures c.if-nodes-gt512.true
-    ∙ past_is r 512 (namePlace (text s))
+returns-then-nodes-gt512 c ps r = let text = c.args.text.now in
+    let one = sym c.stops.ensures ∙ c.if-stops.false in
+    weighing_here 512 (namePlace text) (lexemes text) (front c.token_from-t.ensures one c.loop-t.invariant.1)
+    (head_is text c.token_from-t.result c.if-kind-eq1.true) c.closed-nodes.ensures c.if-nodes-gt512.true
+    ∙ past_is r 512 (namePlace text)
 
 pub weight_of-weight-requires : goal.weight_of-weight-requires
-weight_of-weight-requires c = (spelt (L s) (one s), (L s).parted)
+weight_of-weight-requires c = let L = c.token_from-t.ensures in (spelt L (sym c.stops.ensures ∙ c.if-stops.false), L.parted)
 
 pub loop-t-smaller-else-nodes-gt512 : goal.loop-t-smaller-else-nodes-gt512
-loop-t-smaller-else-nodes-gt512 c = omega (arith, on c.before.before.before)
+loop-t-smaller-else-nodes-gt512 c =
+    omega (arith, goes_on c.token_from-t.ensures (sym c.stops.ensures ∙ c.if-stops.false) c.loop-t.invariant.0)
 
 pub loop-t-preserved-else-nodes-gt512 : goal.loop-t-preserved-else-nodes-gt512
-loop-t-preserved-else-nodes-gt512 c = (
-  (on s).1,
-  weighing_head 512 (namePlace (text s)) (lexemes (text s)) (front s) (head_is (text s) (t s) c.if-kind-eq1.true)
-      c.closed-nodes.ensures c.if-nodes-gt512.false (name_is (L s) (one s)),
-)
+loop-t-preserved-else-nodes-gt512 c = let text = c.args.text.now in
+    let L = c.token_from-t.ensures in
+    let one = sym c.stops.ensures ∙ c.if-stops.false in (
+      (goes_on L one c.loop-t.invariant.0).1,
+      weighing_head 512 (namePlace text) (lexemes text) (front L one c.loop-t.invariant.1)
+          (head_is text c.token_from-t.result c.if-kind-eq1.true) c.closed-nodes.ensures c.if-nodes-gt512.false (name_is L one),
+    )
 
 pub loop-t-smaller : goal.loop-t-smaller
-loop-t-smaller c = omega (arith, on c.before.before)
-
-pub loop-t-preserved : goal.loop-t-preserved
-loop-t-preserved c = (
-  (on s).1,
-  weighing_token 512 (namePlace (text s)) (lexemes (text s)) (front s) (no_head (text s) (t s) c.if-kind-eq1.false) c.weight_of-weight.ensures,
-)
+loop-t-smaller c = omega (arith, goes_on c.token_from-t.ensures (sym c.stops.ensures ∙ c.if-stops.false) c.loop-t.invariant.0)
 
 pub overflow_add-weight : goal.overflow_add-weight
-overflow_add-weight c = omega (arith, (loop-again-2 c).1.light)
+overflow_add-weight c = let text = c.args.text.now in
+    let L = c.token_from-t.ensures in
+    let one = sym c.stops.ensures ∙ c.if-stops.false in
+    omega (
+      arith,
+      (weighing_token 512 (namePlace text) (lexemes text) (front L one c.loop-t.invariant.1)
+          (no_head text c.token_from-t.result c.if-kind-eq1.false) c.weight_of-weight.ensures).light,
+    )
+
+pub loop-t-preserved : goal.loop-t-preserved
+loop-t-preserved c = let text = c.args.text.now in
+    let L = c.token_from-t.ensures in
+    let one = sym c.stops.ensures ∙ c.if-stops.false in (
+      (goes_on L one c.loop-t.invariant.0).1,
+      weighing_token 512 (namePlace text) (lexemes text) (front L one c.loop-t.invariant.1)
+          (no_head text c.token_from-t.result c.if-kind-eq1.false) c.weight_of-weight.ensures,
+    )

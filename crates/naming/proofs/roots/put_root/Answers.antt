@@ -2,7 +2,6 @@
 use Prim.Native.Nat.{◌-◌}
 use mathlib.Core.Path.{ap}
 use native.Mathlib.Omega.{arith}
-use borrow.Author.Rules.{rules}
 use lib.ListN.{set}
 use Rattle.naming.proofs.SeekLaws.{seeks_inside, seeks_place}
 use Rattle.naming.proofs.roots.put_root.Goals as goal
@@ -11,7 +10,7 @@ pub seek-sought-requires : goal.seek-sought-requires
 seek-sought-requires c = (omega arith, c.requires.0.ordered)
 
 pub offset_bounds-roots-index : goal.offset_bounds-roots-index
-offset_bounds-roots-index c = omega (arith, seeks_inside c.seek-sought.ensures c.requires.0.named, c.requires.0.long, c.well-formed)
+offset_bounds-roots-index c = omega (arith, seeks_inside c.seek-sought.ensures c.requires.0.named, c.requires.0.long, c.well_formed)
 
 pub bounds-roots-index : goal.bounds-roots-index
 bounds-roots-index c = omega (arith, seeks_inside c.seek-sought.ensures c.requires.0.named, c.requires.0.long)

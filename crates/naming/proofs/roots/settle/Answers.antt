@@ -2,7 +2,6 @@
 use Prim.Native.Nat.{◌-◌}
 use mathlib.Core.Path.{ap, ◌∙◌}
 use native.Mathlib.Omega.{arith}
-use borrow.Author.Rules.{rules}
 use borrow.Author.Tests.{eq-eqb, ne_eqb}
 use lib.ListN.{set}
 use Rattle.naming.specs.Rooted.{root_at}

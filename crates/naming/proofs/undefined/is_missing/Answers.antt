@@ -1,7 +1,6 @@
 -- `is_missing` meets its promise. Assumes nothing.
 use mathlib.Core.Path.{ap}
 use mathlib.Core.Bool.{not}
-use borrow.Author.Rules.{rules}
 use Rattle.naming.proofs.SeekLaws.{seeks_member}
 use Rattle.naming.proofs.undefined.is_missing.Goals as goal
 

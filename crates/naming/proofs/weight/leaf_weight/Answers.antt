@@ -16,4 +16,5 @@ pub returns : goal.returns
 returns c = ap (λ n. n * 2) c.class_size.ensures ∙ class_weight c.args.text.now c.args.t c.requires.0 c.if-t-ne3.false c.requires.2
 
 pub overflow_mul-result : goal.overflow_mul-result
-overflow_mul-result c = omega (arith, returns-2 c, spelt_weight c.args.text.now c.args.t.start c.requires.1, c.well-formed)
+overflow_mul-result c = let e = ap (λ n. n * 2) c.class_size.ensures ∙ class_weight c.args.text.now c.args.t c.requires.0 c.if-t-ne3.false c.requires.2 in
+    omega (arith, e, spelt_weight c.args.text.now c.args.t.start c.requires.1, c.well_formed)

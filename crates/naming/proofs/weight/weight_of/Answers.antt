@@ -1,5 +1,4 @@
 -- `weight_of` meets its promise. Assumes nothing.
-use borrow.Author.Rules.{rules}
 use Rattle.naming.proofs.WeightLaws.{opener_weight, and_weight, not_weight, star_weight, suffix_weight, no_weight}
 use Rattle.naming.proofs.weight.weight_of.Goals as goal
 
