@@ -1,10 +1,11 @@
 -- What the members of the evaluator's cycle need of those that they call, and what they give. Assumes nothing.
-use Rattle.std.proofs.Common.{ℕ, ◌+◌, ◌-◌, ◌*◌, sym, ◌∙◌, subst, ap, ◌≡◌, refl, arith, length, drop, take, get_or, List}
+use Rattle.std.proofs.Common.{ℕ, ◌+◌, ◌-◌, ◌*◌, sym, ◌∙◌, subst, ap, ap₂, ◌≡◌, refl, arith, length, drop, take, get_or, List}
 use Rattle.std.specs.Prelude.{ltb}
 use Rattle.std.specs.Bool.{beq}
 use Rattle.std.proofs.Math.Nat.{pos_of_ne-zero}
 use Rattle.grammar.specs.Grammar.{node}
 use Rattle.parts.specs.Packed.{atOf, heldOf, steps_of, depth_of}
+use Rattle.parts.specs.declared.outcome.Outcome.TheVariants.{Passed}
 use Rattle.parts.specs.PackedLaws.{opened_parts}
 use Rattle.kinds.specs.Turned.{Bounds}
 use Rattle.machine.specs.Ready.{image_of, grammar_of, room_limit, running, Done, Starts, saying, starring}
@@ -80,7 +81,7 @@ star-passed-requires t c = let a = c.args in
 pub star-returns-in_default : goal.star-returns-in_default
 star-returns-in_default t c = let a = c.args in
     star_ends a.code.now (image_of a.code.now a.image.now) a.input.now a.slots.now a.state a.left a.a (atOf a.from) (heldOf a.from) (steps_of a.from) (depth_of a.from) c.loop-next.invariant c.eval-r.ensures
-    c.in-Failed.spent c.in-Failed.deepest (sym c.opened-round.ensures ∙ c.in-Failed.is) (rw (sym c.at_of-at.ensures, sym c.held_of.ensures) c.passed.ensures)
+    c.in-Failed.spent c.in-Failed.deepest (sym c.opened-round.ensures ∙ c.in-Failed.is) (c.passed.ensures ∙ ap₂ (λ a h. Passed a h c.in-Failed.spent c.in-Failed.deepest) c.at_of-at.ensures c.held_of.ensures)
 
 pub star-refused-requires : goal.star-refused-requires
 star-refused-requires t c = let a = c.args in
