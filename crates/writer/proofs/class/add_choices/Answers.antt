@@ -4,7 +4,7 @@ use mathlib.Core.Path.{refl}
 use native.Mathlib.Omega.{arith}
 use Rattle.grammar.specs.Expr.{Choice}
 use Rattle.writer.specs.PutLaws.{room_left}
-use Rattle.writer.proofs.ChoiceLaws.{Choosing, choosing_none, choosing_more, choosing_all}
+use Rattle.writer.proofs.ChoiceLaws.{choosing_none, choosing_more, choosing_all}
 use Rattle.writer.proofs.class.add_choices.Goals as goal
 
 pub loop-left-init : goal.loop-left-init

@@ -1,10 +1,5 @@
 -- `add_choices` meets its promise. The loop's invariant: those that were added and those that are still to come are all. The measure is how many are still to come. Assumes nothing.
-use Prim.Native.Nat.{◌+◌, ◌-◌}
-use mathlib.Core.Path.{refl}
-use native.Mathlib.Omega.{arith}
-use Rattle.grammar.specs.Expr.{Choice}
-use Rattle.writer.specs.PutLaws.{room_left}
-use Rattle.writer.proofs.ChoiceLaws.{Choosing, choosing_none, choosing_more, choosing_all}
+use Rattle.writer.proofs.ChoiceLaws.{Choosing}
 use Rattle.writer.proofs.class.add_choices.Given as goal
 
 abbrev pub invariant-loop-left : goal.invariant-loop-left

@@ -7,7 +7,6 @@ use Rattle.notation.specs.At.{parts_of}
 use Rattle.notation.specs.Compile.{part_node}
 use Rattle.writer.specs.PutLaws.{adds_on, adds_as, room_left}
 use Rattle.writer.proofs.ChoiceLaws.{class_count, class_nodes}
-use borrow.Author.Rules.{rules}
 use Rattle.writer.proofs.class.add_class.Goals as goal
 
 pub add_parts-r-requires : goal.add_parts-r-requires

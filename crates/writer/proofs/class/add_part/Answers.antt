@@ -3,7 +3,6 @@ use mathlib.Core.Path.{refl}
 use borrow.Author.Tests.{eq-eqb, ne_eqb}
 use Rattle.grammar.specs.Expr.{Byte, Range}
 use Rattle.writer.specs.PutLaws.{adds_as}
-use borrow.Author.Rules.{rules}
 use Rattle.writer.proofs.class.add_part.Goals as goal
 
 pub returns-then-lo-hi : goal.returns-then-lo-hi

@@ -1,19 +1,14 @@
 -- `add_parts` meets its promise. The loop's invariant: the parts that were passed were added. The measure is what is left of the text. Assumes nothing.
 use Prim.Native.Nat.{◌+◌, ◌-◌}
-use mathlib.Core.Path.{ap, sym, ◌∙◌}
-use mathlib.Core.List.{List, [], map, map-append}
-use native.Mathlib.Omega.{arith}
-use lib.ListN.{length, drop, length-map}
-use borrow.Author.Rules.{rules}
+use mathlib.Core.List.{List, map}
+use lib.ListN.{length, drop}
 use Rattle.notation.specs.Tree.{Part}
 use Rattle.notation.specs.Lexer.{fresh, begin, parts}
 use Rattle.notation.specs.At.{value}
 use Rattle.notation.specs.Compile.{part_node}
 use Rattle.chars.specs.CharLaws.{class_row}
-use Rattle.chars.proofs.RowLaws.{parts_are}
 use Rattle.writer.specs.Put.{Adds}
-use Rattle.writer.specs.PutLaws.{adds_none, adds_on, adds_as, room_left}
-use Rattle.writer.proofs.RowLaws.{Through, through_none, through_inside, through_all, through_onward, through_on, through_few}
+use Rattle.writer.proofs.RowLaws.{Through}
 use Rattle.writer.proofs.class.add_parts.Given as goal
 
 abbrev pub invariant-loop-i : goal.invariant-loop-i

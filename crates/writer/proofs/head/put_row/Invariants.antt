@@ -1,8 +1,7 @@
 -- `put_row` meets its promise. The loop's invariant: the numbers up to here were put down. The measure is what is left of the row. Assumes nothing.
 use Prim.Native.Nat.{◌-◌}
-use native.Mathlib.Omega.{arith}
-use lib.ListN.{length, get_or}
-use Rattle.writer.specs.PutLaws.{Laid, laid_none, laid_more, laid_all, small_at, groups_two}
+use lib.ListN.{length}
+use Rattle.writer.specs.PutLaws.{Laid}
 use Rattle.writer.proofs.head.put_row.Given as goal
 
 abbrev pub invariant-loop-i : goal.invariant-loop-i

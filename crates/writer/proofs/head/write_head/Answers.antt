@@ -3,7 +3,6 @@ use mathlib.Core.List.{[], ◌∷◌}
 use native.Mathlib.Omega.{arith}
 use lib.ListN.{length}
 use Rattle.writer.specs.PutLaws.{wrote_on, wrote_both, wrote_last, numbers_most, groups_most}
-use borrow.Author.Rules.{rules}
 use Rattle.writer.proofs.head.write_head.Goals as goal
 
 pub put_two-next-requires : goal.put_two-next-requires

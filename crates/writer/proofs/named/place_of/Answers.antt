@@ -7,7 +7,6 @@ use Rattle.index.specs.ListedLaws.{stands_place, belongs_member}
 use Rattle.index.specs.PlaceLaws.{names_length}
 use Rattle.writer.specs.Named.{names_of}
 use Rattle.writer.specs.NamedLaws.{place_none}
-use borrow.Author.Rules.{rules}
 use Rattle.writer.proofs.named.place_of.Goals as goal
 
 pub returns-then-sought : goal.returns-then-sought

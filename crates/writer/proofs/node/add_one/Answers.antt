@@ -2,7 +2,6 @@
 use mathlib.Core.List.{[], ◌∷◌}
 use native.Mathlib.Omega.{arith}
 use Rattle.writer.specs.PutLaws.{numbers_most, node_added}
-use borrow.Author.Rules.{rules}
 use Rattle.writer.proofs.node.add_one.Goals as goal
 
 pub put_two-end-requires : goal.put_two-end-requires

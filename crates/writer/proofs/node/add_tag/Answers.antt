@@ -2,7 +2,6 @@
 use mathlib.Core.List.{[], ◌∷◌}
 use native.Mathlib.Omega.{arith}
 use Rattle.writer.specs.PutLaws.{wrote_last, groups_most, node_added}
-use borrow.Author.Rules.{rules}
 use Rattle.writer.proofs.node.add_tag.Goals as goal
 
 pub put_number-end-requires : goal.put_number-end-requires

@@ -2,7 +2,6 @@
 use mathlib.Core.List.{[], ◌∷◌}
 use native.Mathlib.Omega.{arith}
 use Rattle.writer.specs.PutLaws.{wrote_both, numbers_most, node_added}
-use borrow.Author.Rules.{rules}
 use Rattle.writer.proofs.node.add_three.Goals as goal
 
 pub put_two-at-requires : goal.put_two-at-requires

@@ -4,7 +4,6 @@ use mathlib.Core.List.{[], ◌∷◌}
 use Rattle.grammar.specs.Expr.{Sequence, Choice}
 use Rattle.writer.specs.PutLaws.{adds_as}
 use Rattle.writer.proofs.OperatorLaws.{binary_sequence, binary_choice}
-use borrow.Author.Rules.{rules}
 use Rattle.writer.proofs.operator.add_binary.Goals as goal
 
 pub returns-then-symbol-eq20 : goal.returns-then-symbol-eq20

@@ -5,7 +5,6 @@ use native.Mathlib.Omega.{arith}
 use Rattle.grammar.specs.Expr.{Empty, Star, Not}
 use Rattle.writer.specs.PutLaws.{adds_as}
 use Rattle.writer.proofs.OperatorLaws.{first_not, first_empty, first_star}
-use borrow.Author.Rules.{rules}
 use Rattle.writer.proofs.operator.add_first.Goals as goal
 
 pub returns-then-symbol-le16 : goal.returns-then-symbol-le16

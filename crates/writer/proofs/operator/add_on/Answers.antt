@@ -8,7 +8,6 @@ use Rattle.grammar.specs.Expr.{On}
 use Rattle.notation.specs.At.{name_at}
 use Rattle.writer.specs.Named.{place_by}
 use Rattle.writer.proofs.LeafLaws.{bit_byte}
-use borrow.Author.Rules.{rules}
 use Rattle.writer.proofs.operator.add_on.Goals as goal
 
 pub returns : goal.returns

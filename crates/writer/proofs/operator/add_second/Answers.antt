@@ -4,7 +4,6 @@ use lib.ListN.{length}
 use Rattle.grammar.specs.Expr.{Sequence, Choice, Not}
 use Rattle.writer.specs.PutLaws.{adds_as, adds_none, room_as}
 use Rattle.writer.proofs.OperatorLaws.{second_not, second_choice, second_sequence, second_none}
-use borrow.Author.Rules.{rules}
 use Rattle.writer.proofs.operator.add_second.Goals as goal
 
 pub add_one-requires : goal.add_one-requires

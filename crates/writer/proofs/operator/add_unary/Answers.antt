@@ -1,6 +1,5 @@
 -- `add_unary` meets its promise. Assumes nothing.
 use Rattle.writer.specs.PutLaws.{adds_on}
-use borrow.Author.Rules.{rules}
 use Rattle.writer.proofs.operator.add_unary.Goals as goal
 
 pub returns : goal.returns

@@ -1,5 +1,4 @@
 -- `put_byte` meets its promise. Assumes nothing.
-use borrow.Author.Rules.{rules}
 use Rattle.writer.specs.PutLaws.{wrote_byte}
 use Rattle.writer.proofs.out.put_byte.Goals as goal
 

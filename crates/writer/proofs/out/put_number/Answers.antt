@@ -3,7 +3,7 @@
 use mathlib.Core.Path.{◌∙◌}
 use native.Mathlib.Omega.{arith}
 use lib.ListN.{length-set}
-use Rattle.writer.specs.PutLaws.{Putting, putting_first, putting_inside, putting_more, putting_last}
+use Rattle.writer.specs.PutLaws.{putting_first, putting_inside, putting_more, putting_last}
 use Rattle.writer.proofs.out.put_number.Goals as goal
 
 pub loop-left-init : goal.loop-left-init

@@ -1,9 +1,6 @@
 -- `put_number` meets its promise. The loop's invariant: some groups were put down, and those of what is left are the others. The measure is what is left. Assumes
 -- nothing.
-use mathlib.Core.Path.{◌∙◌}
-use native.Mathlib.Omega.{arith}
-use lib.ListN.{length-set}
-use Rattle.writer.specs.PutLaws.{Putting, putting_first, putting_inside, putting_more, putting_last}
+use Rattle.writer.specs.PutLaws.{Putting}
 use Rattle.writer.proofs.out.put_number.Given as goal
 
 abbrev pub invariant-loop-left : goal.invariant-loop-left

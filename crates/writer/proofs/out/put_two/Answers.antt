@@ -5,7 +5,6 @@ use lib.ListN.{length-append}
 use Rattle.format.specs.Number.{groups}
 use Rattle.format.specs.Written.{numbers}
 use Rattle.writer.specs.PutLaws.{wrote_both, wrote_last}
-use borrow.Author.Rules.{rules}
 use Rattle.writer.proofs.out.put_two.Goals as goal
 
 pub put_number-next-requires : goal.put_number-next-requires

@@ -12,7 +12,6 @@ use Rattle.chars.proofs.RowLaws.{quoted_is}
 use Rattle.writer.specs.PutLaws.{adds_as}
 use Rattle.writer.proofs.RowLaws.{one_alone}
 use Rattle.writer.proofs.TextLaws.{text_none, text_more}
-use borrow.Author.Rules.{rules}
 use Rattle.writer.proofs.quoted.add_quoted.Goals as goal
 
 pub returns-then-n-eq0 : goal.returns-then-n-eq0

@@ -6,7 +6,6 @@ use lib.ListN.{drop}
 use Rattle.format.specs.Written.{numbers}
 use Rattle.notation.specs.At.{quoted_of}
 use Rattle.writer.specs.PutLaws.{wrote_on, wrote_as, numbers_most, one_group, text_added}
-use borrow.Author.Rules.{rules}
 use Rattle.writer.proofs.quoted.add_text.Goals as goal
 
 pub put_two-at-requires : goal.put_two-at-requires
