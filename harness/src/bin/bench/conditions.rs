@@ -12,7 +12,7 @@ fn before() -> String {
             "the same function of the library of commit `{}`, made as the present one is and linked beside it (`scripts/before-archive`)",
             fact("BENCH_BEFORE")
         ),
-        None => "not measured; the commit that `scripts/before-archive` names is not in the clone in which this ran, or is written for an older kit".to_string(),
+        None => "not measured; the clone in which this ran lacks the commit that `scripts/before-archive` names, or the kit cannot build it".to_string(),
     }
 }
 
