@@ -94,6 +94,7 @@ fn parts_end(text: &[u8], from: usize) -> End
 }
 
 // Where the class ends whose first byte, behind its `[`, stands at `from`.
+#[tactic(auto, using(crate::proofs::ClassLaws::class_refused))]
 pub fn class_end(text: &[u8], from: usize) -> End
     ensures { ClassEnds text.now from result }
 {

@@ -29,6 +29,7 @@ fn same_switch(text: &[u8], a: Token, b: Token) -> bool
 }
 
 // Whether two symbols of one number have the same contents: those of quoted text or of a class, a truth and a name, a name, or none.
+#[tactic(auto, using(crate::proofs::ContentsLaws::same_plain))]
 pub fn same_contents(text: &[u8], symbol: u8, a: Token, b: Token) -> bool
     requires { Shown text.now symbol a × Shown text.now symbol b }
     ensures { result ≡ same_symbol (symbol_at text.now symbol a) (symbol_at text.now symbol b) }

@@ -44,7 +44,7 @@ returns-then-is_past c ps g r S = let text = c.args.text.now in
     let t = c.token_from-t.result in
     let L = c.token_from-t.ensures in
     let one = sym c.stops.ensures ∙ c.if-stops.false in
-    ending_here 16384 base ends (namePlace text) (lexemes text) (rw (steps L one) at c.loop-t.invariant.1) (head_is text t c.if-kind-eq1.true)
+    ending_here 16384 base ends (namePlace text) (lexemes text) (rw (steps L one) at c.loop-t.invariant.1) (head_is text t (omega arith))
     c.if-ends-i.false (tested base (get_or ends c.loop-t.i 0) c.wide.ensures c.is_past.ensures c.if-is_past.true) (name_is L one)
     ∙ ap (found (namePlace text)) (above_is r g base ends S 16384)
 
@@ -59,7 +59,7 @@ loop-t-preserved-else-is_past c = let text = c.args.text.now in
     let L = c.token_from-t.ensures in
     let one = sym c.stops.ensures ∙ c.if-stops.false in (
       (goes_on L one c.loop-t.invariant.0).1,
-      ending_head 16384 base ends (namePlace text) (lexemes text) (rw (steps L one) at c.loop-t.invariant.1) (head_is text t c.if-kind-eq1.true)
+      ending_head 16384 base ends (namePlace text) (lexemes text) (rw (steps L one) at c.loop-t.invariant.1) (head_is text t (omega arith))
           c.if-ends-i.false (tested base (get_or ends c.loop-t.i 0) c.wide.ensures c.is_past.ensures c.if-is_past.false),
     )
 
@@ -74,5 +74,5 @@ loop-t-preserved c = let text = c.args.text.now in
     let L = c.token_from-t.ensures in
     let one = sym c.stops.ensures ∙ c.if-stops.false in (
       (goes_on L one c.loop-t.invariant.0).1,
-      ending_token 16384 base ends (namePlace text) (lexemes text) (rw (steps L one) at c.loop-t.invariant.1) (no_head text t c.if-kind-eq1.false),
+      ending_token 16384 base ends (namePlace text) (lexemes text) (rw (steps L one) at c.loop-t.invariant.1) (no_head text t (λ e. omega arith)),
     )

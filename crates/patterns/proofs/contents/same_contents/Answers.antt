@@ -8,7 +8,7 @@ use Rattle.lexer.specs.declared.token.Token.{Token}
 use Rattle.naming.proofs.StepLaws.{spelt}
 use Rattle.naming.proofs.LeafLaws.{quoted_here, class_here_lem}
 use Rattle.patterns.specs.Compared.{Shown}
-use Rattle.patterns.proofs.ContentsLaws.{same_plain, same_any, same_texts, same_classes, same_switches, same_names}
+use Rattle.patterns.proofs.ContentsLaws.{same_any, same_texts, same_classes, same_switches, same_names}
 use Rattle.patterns.proofs.contents.same_contents.Goals as goal
 
 -- Such a token is quoted text, or a class.
@@ -22,9 +22,6 @@ module _ {text : List ℕ} {n : ℕ} {t : Token} (S : Shown text n t) where
   class_at e =
       let T = S.taken (omega arith) in
       let k = T.leaf (omega arith) (omega arith) in class_here_lem text t (spelt T.lexed (rw k.0)) k.0 (k.1 ∙ e) T.lexed.parted
-
-pub returns-then-symbol-ge14 : goal.returns-then-symbol-ge14
-returns-then-symbol-ge14 c = let a = c.args in same_plain a.text.now a.symbol a.a a.b c.requires.0 c.requires.1 (omega arith)
 
 pub same_quoted-requires : goal.same_quoted-requires
 same_quoted-requires c = let e = c.in-2.is in (text_at c.requires.0 e, text_at c.requires.1 e)
