@@ -1,5 +1,7 @@
-// Reading a file whole, into a buffer that the caller lends; and saying why something failed.
+// Reading a file whole, into a buffer that the caller lends; the words that a program was started with; and saying why something failed.
 #![tactic(auto)]
+
+pub mod argument;
 
 ghost use Rattle.std.specs.Prelude.{◌≤◌, length};
 ghost use Rattle.files.specs.Within.{Within};
