@@ -1,11 +1,8 @@
 -- A loop that puts readings down, by the code's own values.
 use Prim.Native.Nat.{ℕ, ◌+◌, ◌≤◌, ◌<◌}
-use mathlib.Core.Path.{◌≡◌, ap, sym, ◌∙◌}
+use mathlib.Core.Path.{◌≡◌, refl, ap, sym, ◌∙◌}
 use mathlib.Core.List.{List}
-use native.Mathlib.Omega.{arith}
 use lib.ListN.{set}
-use denote.Enum.Declared.{tag_of}
-use Rattle.reader.specs.contracts.number.Read.{the_type}
 use Rattle.reader.specs.declared.number.Number.{Number}
 use Rattle.reader.specs.declared.number.Read.{Read}
 use Rattle.reader.specs.declared.number.Read.TheVariants.{Got, Refused}
@@ -20,8 +17,8 @@ module _ (p : ℕ → ℕ → Reading ℕ) (to N : ℕ) {start : ℕ} {before no
       → Filling p to N start before (set now j n.value) (i + 1) n.next
   put_down j is h e g = rw is (filling_more p to N f h (sym (ap reading g) ∙ e))
 
-  pub refused_at : i < N → (r : Read) → tag_of the_type r ≡ 1 → reading r ≡ p i at → Fills p to N start before now r
-  refused_at h (Got n) t e = absurd (omega arith)
+  pub refused_at : i < N → (r : Read) → ((n : Number) → r ≡ Got n → ⊥) → reading r ≡ p i at → Fills p to N start before now r
+  refused_at h (Got n) t e = absurd (t n refl)
   refused_at h (Refused r) t e = let s = filling_stops p to N f h e in record { result = s.0; array = s.1 }
 
   pub all_down : N ≤ i → Fills p to N start before now (Got (record { value = N; next = at }))

@@ -2,24 +2,20 @@
 use Prim.Native.Nat.{ℕ, ◌<◌, ◌≤◌}
 use mathlib.Core.Path.{◌≡◌, refl, ap, sym, ◌∙◌}
 use mathlib.Core.List.{List}
-use native.Mathlib.Omega.{arith}
 use borrow.Author.Tests.{lt-ltb, le-ltb, le-leb, lt-leb}
-use denote.Enum.Declared.{tag_of}
-use Rattle.reader.specs.contracts.number.Read.{the_type}
 use Rattle.reader.specs.declared.number.Number.{Number}
 use Rattle.reader.specs.declared.number.Refusal.{Refusal}
 use Rattle.reader.specs.declared.number.Read.{Read}
 use Rattle.reader.specs.declared.number.Read.TheVariants.{Got, Refused}
 use Rattle.format.specs.Reading.{Reading, got, fault, pick, ◌then◌}
 use Rattle.format.specs.ReadingLaws.{onward}
-use Rattle.format.specs.Number.{number_at}
 use Rattle.format.specs.Image.{inside, bounded}
 use Rattle.format.specs.ImageLaws.{number_below}
 use Rattle.reader.specs.Meant.{reading}
 
 -- What was refused is refused, whatever would follow.
-pub stays : (r : Read) → tag_of the_type r ≡ 1 → (k : ℕ → ℕ → Reading ℕ) {x : Reading ℕ} → reading r ≡ x → reading r ≡ (x then k)
-stays (Got n) t k e = absurd (omega arith)
+pub stays : (r : Read) → ((n : Number) → r ≡ Got n → ⊥) → (k : ℕ → ℕ → Reading ℕ) {x : Reading ℕ} → reading r ≡ x → reading r ≡ (x then k)
+stays (Got n) t k e = absurd (t n refl)
 stays (Refused f) t k e = onward k e
 
 -- What was got is read on from.

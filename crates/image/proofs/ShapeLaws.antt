@@ -2,7 +2,7 @@
 use Prim.Native.Nat.{ℕ, zero, suc, ◌+◌, ◌-◌, ◌*◌, ◌≤◌, ◌<◌}
 use mathlib.Core.Path.{◌≡◌, refl, ap, sym, subst, ◌∙◌}
 use mathlib.Core.Bool.{Bool, true, false}
-use mathlib.Core.List.{List, [], ◌∷◌}
+use mathlib.Core.List.{List}
 use mathlib.Core.Logic.{⊎_elim}
 use native.Mathlib.Omega.{arith}
 use native.Mathlib.Nat.{eq-or-lt_of_le}
@@ -10,17 +10,16 @@ use lib.Dec.{leb, eqb}
 use lib.ListN.{take, drop, length, get_or, length-drop}
 use lib.Seq.{length-take-le}
 use borrow.Author.Tests.{le-leb, lt-leb, leb-true}
-use Rattle.grammar.specs.Expr.{Expr, Empty, Byte, Range, Any, Text, Sequence, Choice, Star, Not, Call, Def, Match, Is, Isa, Exists, Block, Local, If, On}
+use Rattle.grammar.specs.Expr.{Expr, Byte, Range, Text, Sequence, Choice, Star, Not, Call, Def, Match, Is, Isa, Exists, Block, Local, If, On}
 use Rattle.reader.specs.declared.number.Number.{Number}
 use Rattle.reader.specs.declared.number.Read.{Read}
 use Rattle.reader.specs.declared.number.Read.TheVariants.{Got}
 use Rattle.format.specs.Reading.{Reading, got, fault, pick, ◌then◌}
-use Rattle.format.specs.ReadingLaws.{All, holds, stops, ◌▹◌, of_got, then_assoc, then_ext}
-use Rattle.format.specs.Written.{bit}
-use Rattle.format.specs.Image.{bounded, raw, kinds, node_at}
+use Rattle.format.specs.ReadingLaws.{All, holds, ◌▹◌, of_got, then_assoc, then_ext}
+use Rattle.format.specs.Image.{bounded, raw, kinds}
 use Rattle.format.specs.ImageLaws.{number_all, bit_back}
-use Rattle.image.specs.Word.{packed, switch, kept, keep, word_at}
-use Rattle.image.specs.Shapes.{word1, word2, switched, last_at, high_at, bytes_at, truth_of, one_at, two_at, range_at, text_at, switch_at, if_at, on_at}
+use Rattle.image.specs.Word.{packed, switch, keep, word_at}
+use Rattle.image.specs.Shapes.{word1, switched, last_at, bytes_at, truth_of, one_at, two_at, range_at, text_at, switch_at, if_at, on_at}
 use Rattle.reader.specs.Meant.{reading}
 
 module _ (image : List ℕ) where

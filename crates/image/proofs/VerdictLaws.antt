@@ -1,11 +1,9 @@
 -- From what the walk says to what check says.
 use Prim.Native.Nat.{ℕ, ◌≤◌}
-use mathlib.Core.Path.{◌≡◌, refl, ap, sym, ◌∙◌}
+use mathlib.Core.Path.{◌≡◌, refl, ap}
 use mathlib.Core.List.{List}
 use native.Mathlib.Omega.{arith}
-use denote.Enum.Declared.{tag_of}
 use Rattle.grammar.specs.Sound.{Bytes}
-use Rattle.image.specs.contracts.walk.Loaded.{the_type}
 use Rattle.reader.specs.declared.number.Refusal.{Refusal}
 use Rattle.image.specs.declared.walk.Loaded.{Loaded}
 use Rattle.image.specs.declared.walk.Loaded.TheVariants.{Good, Refused}
@@ -17,9 +15,9 @@ use Rattle.image.specs.Meant.{answered, verdict}
 abbrev zeros : Verdict
 zeros = record { number = 0; place = 0 }
 
-pub says_good : (x : Checked) {r : Loaded} → tag_of the_type r ≡ 0 → r ≡ answered x → zeros ≡ verdict x
+pub says_good : (x : Checked) {r : Loaded} {T C N start : ℕ} → r ≡ Good T C N start → r ≡ answered x → zeros ≡ verdict x
 says_good (good g) t e = refl
-says_good (refused n place) t e = let z : ◌≡◌ {A = ℕ} 0 1 = sym t ∙ ap (tag_of the_type) e in absurd (omega arith)
+says_good (refused n place) t e = cc
 
 pub says_refused : (x : Checked) {r : Loaded} {f : Refusal} → r ≡ Refused f → r ≡ answered x → x ≡ refused f.number f.place
 says_refused (good g) e q = let z : ◌≡◌ {A = ℕ} 0 1 = cc in absurd (omega arith)

@@ -1,21 +1,19 @@
 -- The walk over an image, by how far it came: what it says, and what the array then holds.
-use Prim.Native.Nat.{ℕ, zero, suc, ◌+◌, ◌≤◌, ◌<◌}
+use Prim.Native.Nat.{ℕ, zero, suc, ◌≤◌, ◌<◌}
 use mathlib.Core.Path.{◌≡◌, refl, ap, ap₂, sym, ◌∙◌}
-use mathlib.Core.Bool.{Bool, true, false}
-use mathlib.Core.List.{List, [], ◌∷◌}
-use native.Mathlib.Omega.{arith}
-use lib.ListN.{length, get_or}
+use mathlib.Core.List.{List, ◌∷◌}
+use lib.ListN.{length}
 use borrow.Author.Tests.{lt-ltb, le-ltb}
 use Rattle.grammar.specs.Expr.{Expr}
 use Rattle.grammar.specs.Grammar.{Grammar}
 use Rattle.grammar.specs.Sound.{Bytes}
 use Rattle.image.specs.declared.walk.Loaded.{Loaded}
 use Rattle.image.specs.declared.walk.Loaded.TheVariants.{Good, Refused}
-use Rattle.format.specs.Reading.{Reading, got, fault, pick, ◌then◌}
+use Rattle.format.specs.Reading.{Reading, got, fault, ◌then◌}
 use Rattle.format.specs.ReadingLaws.{onward, then_assoc, of_got}
-use Rattle.format.specs.Image.{times, Head, bounded, node_at, head_at, patterns_at, nodes_at, body_at, Checked, good, refused, ended, read_image}
+use Rattle.format.specs.Image.{times, Head, bounded, node_at, head_at, patterns_at, nodes_at, body_at, ended, read_image}
 use Rattle.image.specs.Word.{keep, word_at}
-use Rattle.image.specs.Filled.{unless, counted, filling, filled, with_patterns, with_nodes, Loads}
+use Rattle.image.specs.Filled.{unless, counted, filled, with_patterns, with_nodes, Loads}
 use Rattle.image.specs.LoadLaws.{Through, through, through_fault, times_count, made, after_patterns, nodes_kept, texts_kept, patterns_kept}
 use Rattle.image.specs.Meant.{answered}
 

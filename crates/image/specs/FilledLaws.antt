@@ -1,10 +1,10 @@
 -- Laws of the array that the walk fills.
-use Prim.Native.Nat.{ℕ, zero, suc, ◌+◌, ◌-◌, ◌*◌, ◌≤◌, ◌<◌}
-use Rattle.std.specs.Prelude.{◌≡◌, refl, List, [], ◌∷◌, map, length, get_or, set}
-use Rattle.std.proofs.Common.{ap, subst, ◌∙◌, add-one, length-set, get_or-set_same, get_or-set_other}
+use Prim.Native.Nat.{ℕ, zero, suc, ◌+◌, ◌-◌, ◌≤◌, ◌<◌}
+use Rattle.std.specs.Prelude.{◌≡◌, refl, List, ◌∷◌, length, get_or, set}
+use Rattle.std.proofs.Common.{ap, ◌∙◌, add-one, length-set, get_or-set_same, get_or-set_other}
 use Rattle.std.proofs.Math.Path.{sym}
 use native.Mathlib.Omega.{arith}
-use Rattle.format.specs.Reading.{Reading, got, fault, pick, ◌then◌}
+use Rattle.format.specs.Reading.{Reading, got, fault, ◌then◌}
 use Rattle.format.specs.ReadingLaws.{onward, then_assoc}
 use Rattle.format.specs.Image.{times}
 use Rattle.image.specs.Filled.{unless, filling, counted}

@@ -1,22 +1,22 @@
 -- What the walk puts down for a good image: at each node's number the node of the grammar, at each table's place its pattern.
 use Rattle.std.specs.Prelude.{ℕ, zero, suc, ◌+◌, ◌-◌, ◌≤◌, ◌<◌, ◌≡◌, refl, Bool, true, false, List, [], ◌∷◌, ◌++◌, map, ltb, length, get_or, take, drop}
-use Rattle.std.proofs.Common.{ap, sym, subst, ◌∙◌, append_assoc, arith, take-append-drop, length-append, length-take-le, ltb-false, le-ltb}
+use Rattle.std.proofs.Common.{ap, sym, ◌∙◌, append_assoc, arith, take-append-drop, length-append, length-take-le, ltb-false, le-ltb}
 use Rattle.std.proofs.Math.ListN.{get_or-map}
 use Rattle.std.proofs.Math.Seq.{take-append_seam, drop-append_seam}
-use Rattle.grammar.specs.Expr.{Expr, Empty, Text}
+use Rattle.grammar.specs.Expr.{Expr, Empty}
 use Rattle.grammar.specs.Grammar.{Grammar, tables, size, node, pattern}
 use Rattle.grammar.specs.Sound.{Bytes, Fits}
 use Rattle.format.specs.Reading.{Reading, got, fault, pick, ◌then◌}
 use Rattle.format.specs.ReadingLaws.{All, holds, stops, ◌▹◌, of_got}
 use Rattle.format.specs.NumberLaws.{Refusal}
 use Rattle.format.specs.Number.{groups}
-use Rattle.format.specs.Written.{written, numbers, encode_node}
-use Rattle.format.specs.Image.{times, Head, bounded, node_at, head_at, patterns_at, nodes_at, body_at, Checked, good, refused, ended, read_image}
+use Rattle.format.specs.Written.{numbers, encode_node}
+use Rattle.format.specs.Image.{times, Head, bounded, node_at, head_at, patterns_at, nodes_at, body_at, good, refused, ended, read_image}
 use Rattle.format.specs.OnlyWritten.{Front, One, Many, HeadRead, node_all, pattern_all, times_all, head_all}
 use Rattle.image.specs.Word.{kept, keep, word_at}
 use Rattle.image.specs.Node.{node_of, expr_of, InImage}
 use Rattle.image.specs.NodeLaws.{EndAt, Placed, kept_back, kept_inside}
-use Rattle.image.specs.Filled.{unless, filling, filled, with_patterns, with_nodes}
+use Rattle.image.specs.Filled.{unless, filled, with_patterns, with_nodes}
 use Rattle.image.specs.FilledLaws.{filling_at, filling_other, filling_length}
 
 -- The first of two readings that gave something.

@@ -5,7 +5,6 @@ use Rattle.std.proofs.Common.{ap₂, sym, subst, ◌∙◌, arith, div-add-mod',
 use Rattle.std.proofs.Math.ListN.{get_or-eq_default}
 use Rattle.grammar.specs.Expr as e
 use Rattle.grammar.specs.Sound.{Fits}
-use Rattle.image.specs.declared.node.Node.{Node}
 use Rattle.image.specs.declared.node.Node.TheVariants.{Text, On}
 use Rattle.format.specs.Written.{bit}
 use Rattle.image.specs.Word.{packed, switch, kept}

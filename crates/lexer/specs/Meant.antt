@@ -1,7 +1,7 @@
 -- What the code's tokens stand for, in the terms of the notation.
-use Rattle.std.specs.Prelude.{ℕ, ◌≤◌, ◌<◌, ◌≡◌, Bool, List, [], ◌∷◌, eqb, drop, length}
+use Rattle.std.specs.Prelude.{ℕ, ◌≤◌, ◌<◌, ◌≡◌, List, [], ◌∷◌, eqb, drop, length}
 use Rattle.format.specs.Reading.{pick}
-use Rattle.notation.specs.Tree.{Leaf, any, quoted, class, call, query, match, is, isa, exists, if, Suffix, option, star, plus, Opener, def, block, local, on, and, not}
+use Rattle.notation.specs.Tree.{Leaf, any, quoted, call, query, match, is, isa, exists, if, Suffix, option, star, plus, Opener, def, block, local, on, and, not}
 use Rattle.notation.specs.Token.{head, leaf, opens, closes, left, right, slash, before, after, bad, Lexeme}
 use Rattle.notation.specs.Token as N
 use Rattle.notation.specs.Lexer.{lexemes}

@@ -13,7 +13,7 @@ use Rattle.lexer.specs.Meant.{Lexed}
 use Rattle.walker.specs.declared.walk.Walk.{Walk}
 use Rattle.walker.specs.declared.walk.Step.{Step}
 use Rattle.walker.specs.Acts.{entry_of, latest, pushed_by, closing, Shifts}
-use Rattle.walker.specs.Walks.{rest, Walks, to_go, plain_of, symbol_at, Passing, Gives, Nexts}
+use Rattle.walker.specs.Walks.{Walks, to_go, plain_of, symbol_at, Passing, Gives, Nexts}
 use Rattle.walker.specs.Steps.{shown_as, Closes, Takes, Acted, closes, takes, ends, breaks, Steps}
 use Rattle.walker.proofs.ActLaws.{Entry, a_bracket, an_angle, a_choice, a_row, a_prefix, entry, pushes, bracket_closed}
 use Rattle.walker.proofs.WalkLaws.{Which, Shows, nothing, one, rest_comes, rest_takes, rest_closes, closes_number, takes_shows, walks_takes, falls_takes, walks_closes, falls_closes}

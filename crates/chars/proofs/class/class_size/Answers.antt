@@ -1,14 +1,11 @@
 -- `class_size` meets its promise. The loop's invariant: what was counted and what is still to come make up the whole. The measure is what is
 -- left of the text. Assumes nothing.
-use Prim.Native.Nat.{◌+◌, ◌-◌}
+use Prim.Native.Nat.{◌+◌}
 use mathlib.Core.Path.{ap, sym, ◌∙◌}
 use native.Mathlib.Omega.{arith}
-use lib.ListN.{length, drop}
-use borrow.Author.Rules.{rules}
-use Rattle.notation.specs.Lexer.{fresh, begin, parts}
-use Rattle.notation.specs.At.{value}
+use lib.ListN.{length}
 use Rattle.chars.specs.CharLaws.{class_row}
-use Rattle.chars.proofs.RowLaws.{Counted, counted_none, counted_inside, counted_all, counted_onward, counted_on, parts_are}
+use Rattle.chars.proofs.RowLaws.{counted_none, counted_inside, counted_all, counted_onward, counted_on, parts_are}
 use Rattle.chars.proofs.class.class_size.Goals as goal
 
 pub loop-i-init : goal.loop-i-init

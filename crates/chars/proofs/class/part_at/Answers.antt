@@ -1,7 +1,6 @@
 -- `part_at` meets its promise: by the first byte, and by whether it begins a range. Assumes nothing.
 use mathlib.Core.Path.{sym, ◌∙◌}
 use native.Mathlib.Omega.{arith}
-use borrow.Author.Rules.{rules}
 use Rattle.chars.proofs.WrittenLaws.{reads_on}
 use Rattle.chars.proofs.ClassLaws.{part_none, part_fails, part_ranges, part_alone}
 use Rattle.chars.proofs.class.part_at.Goals as goal

@@ -1,11 +1,8 @@
 -- `parts_end` meets its promise. The loop's invariant: the class ends where the rest of it does. The measure is what is left of the text.
 -- Assumes nothing.
-use Prim.Native.Nat.{◌-◌}
 use native.Mathlib.Omega.{arith}
-use lib.ListN.{length}
-use borrow.Author.Rules.{rules}
 use Rattle.chars.specs.CharLaws.{class_row}
-use Rattle.chars.proofs.RowLaws.{Passed, passed_none, passed_ends, passed_fails, passed_on, passed_over}
+use Rattle.chars.proofs.RowLaws.{passed_none, passed_ends, passed_fails, passed_on, passed_over}
 use Rattle.chars.proofs.class.parts_end.Goals as goal
 
 pub loop-i-init : goal.loop-i-init

@@ -1,6 +1,5 @@
 -- `ranges_at` meets its promise: by the two bytes at the place. Assumes nothing.
 use native.Mathlib.Omega.{arith}
-use borrow.Author.Rules.{rules}
 use Rattle.chars.proofs.ClassLaws.{ranges_short, ranges_dash, ranges_other}
 use Rattle.chars.proofs.class.ranges_at.Goals as goal
 

@@ -1,14 +1,9 @@
 -- `same_class` meets its promise. The loop's invariant: the two are the same exactly if their rests are. The measure is what is left of the text
 -- behind the first. Assumes nothing.
-use Prim.Native.Nat.{◌-◌}
 use native.Mathlib.Omega.{arith}
-use lib.ListN.{length, drop}
-use borrow.Author.Rules.{rules}
 use Rattle.notation.specs.Lexer.{range}
-use Rattle.notation.specs.At.{parts_of}
-use Rattle.chars.specs.CharLaws.{class_row}
 use Rattle.chars.proofs.RowLaws.{parts_are}
-use Rattle.chars.proofs.CompareLaws.{Compared, first_inside, second_inside, first_onward, compared_all, compared_short, compared_differs, compared_on, same_parts, parts_compare, parts_alike, first_differs, second_differs}
+use Rattle.chars.proofs.CompareLaws.{first_inside, second_inside, first_onward, compared_all, compared_short, compared_differs, compared_on, parts_alike, first_differs, second_differs}
 use Rattle.chars.proofs.class.same_class.Goals as goal
 
 pub loop-i-init : goal.loop-i-init

@@ -1,11 +1,9 @@
 -- `quote_end` meets its promise. The loop's invariant: the quoted text ends where the rest of it does. The measure is what is left of the text.
 -- Assumes nothing.
 use Prim.Native.Nat.{◌-◌}
-use native.Mathlib.Omega.{arith}
 use lib.ListN.{length}
-use borrow.Author.Rules.{rules}
 use Rattle.chars.specs.CharLaws.{quoted_row}
-use Rattle.chars.proofs.RowLaws.{Passed, passed_none, passed_ends, passed_fails, passed_on, passed_over}
+use Rattle.chars.proofs.RowLaws.{Passed}
 use Rattle.chars.proofs.quoted.quote_end.Given as goal
 
 abbrev pub invariant-loop-i : goal.invariant-loop-i

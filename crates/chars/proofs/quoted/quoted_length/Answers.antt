@@ -1,14 +1,11 @@
 -- `quoted_length` meets its promise. The loop's invariant: what was counted and what is still to come make up the whole. The measure is what is
 -- left of the text. Assumes nothing.
-use Prim.Native.Nat.{◌+◌, ◌-◌}
+use Prim.Native.Nat.{◌+◌}
 use mathlib.Core.Path.{ap, sym, ◌∙◌}
 use native.Mathlib.Omega.{arith}
-use lib.ListN.{length, drop, get_or}
-use borrow.Author.Rules.{rules}
-use Rattle.notation.specs.Lexer.{fresh, quote}
-use Rattle.notation.specs.At.{value}
+use lib.ListN.{length, get_or}
 use Rattle.chars.specs.CharLaws.{quoted_row}
-use Rattle.chars.proofs.RowLaws.{Counted, counted_none, counted_inside, counted_all, counted_onward, counted_on, quoted_is}
+use Rattle.chars.proofs.RowLaws.{counted_none, counted_inside, counted_all, counted_onward, counted_on, quoted_is}
 use Rattle.chars.proofs.quoted.quoted_length.Goals as goal
 
 pub loop-i-init : goal.loop-i-init

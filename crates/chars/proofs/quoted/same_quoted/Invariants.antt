@@ -1,14 +1,11 @@
 -- `same_quoted` meets its promise. The loop's invariant: the two are the same exactly if their rests are. The measure is what is left of the text
 -- behind the first. Assumes nothing.
 use Prim.Native.Nat.{◌-◌}
-use native.Mathlib.Omega.{arith}
 use lib.ListN.{length, drop}
-use borrow.Author.Rules.{rules}
 use Rattle.notation.specs.Lexer.{same}
 use Rattle.notation.specs.At.{quoted_of}
 use Rattle.chars.specs.CharLaws.{quoted_row}
-use Rattle.chars.proofs.RowLaws.{quoted_is}
-use Rattle.chars.proofs.CompareLaws.{Compared, first_inside, second_inside, first_onward, compared_all, compared_short, compared_differs, compared_on, bytes_compare, bytes_alike, bytes_differ}
+use Rattle.chars.proofs.CompareLaws.{Compared, bytes_compare}
 use Rattle.chars.proofs.quoted.same_quoted.Given as goal
 
 abbrev pub invariant-loop-i : goal.invariant-loop-i

@@ -4,8 +4,7 @@ use mathlib.Core.Logic.{⊎_elim, inl, inr}
 use native.Mathlib.Omega.{arith}
 use Prim.Native.Nat.{◌+◌}
 use lib.ListN.{drop, get_or}
-use borrow.Author.Rules.{rules}
-use borrow.Author.Tests.{eqb-true, eqb-false}
+use borrow.Author.Tests.{eqb-false}
 use Rattle.notation.specs.Lexer.{piece}
 use Rattle.chars.proofs.WrittenLaws.{reads_none, reads_some, reads_on, char_over, char_escaped, char_line, char_itself}
 use Rattle.chars.proofs.written.char_at.Goals as goal
@@ -18,11 +17,9 @@ returns-then-b-eq92 c = let a = c.args in
     reads_on (char_escaped a.text.now a.at (omega arith) (omega arith)) (omega arith) c.escaped_at.ensures
 
 pub returns-then-b-eq10 : goal.returns-then-b-eq10
-returns-then-b-eq10 c = let a = c.args in
-    let b = get_or a.text.now a.at 0 in
-    reads_none c.missing-then-b-eq10.ensures
-    (char_line a.text.now a.at (omega arith)
-    (⊎_elim (λ w. inl w.taken) (λ w. inr (eqb-true b 13 w.1.taken)) c.then-b-eq10.branch))
+returns-then-b-eq10 c =
+    let a = c.args in
+    reads_none c.missing-then-b-eq10.ensures (char_line a.text.now a.at (omega arith) (⊎_elim (λ w. inl w) (λ w. inr w.1) c.then-b-eq10.either))
 
 pub returns : goal.returns
 returns c = let a = c.args in

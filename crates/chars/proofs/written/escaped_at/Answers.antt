@@ -1,6 +1,5 @@
 -- `escaped_at` meets its promise: by the byte behind the `\`. Assumes nothing.
 use native.Mathlib.Omega.{arith}
-use borrow.Author.Rules.{rules}
 use Rattle.chars.proofs.WrittenLaws.{reads_none, reads_on, escaped_over, escaped_hex, escaped_reads}
 use Rattle.chars.proofs.written.escaped_at.Goals as goal
 

@@ -1,6 +1,5 @@
 -- `hex_value` meets its promise: by the range that the byte is in. Assumes nothing.
 use native.Mathlib.Omega.{arith}
-use borrow.Author.Rules.{rules}
 use Rattle.chars.proofs.ByteLaws.{digit, capital, small, no_digit}
 use Rattle.chars.proofs.written.hex_value.Goals as goal
 

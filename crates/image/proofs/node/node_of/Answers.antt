@@ -58,4 +58,4 @@ pub returns-in-17 : goal.returns-in-17
 returns-in-17 c = kind_at c.args.word 17 c.in-17.is
 
 pub returns-in_default : goal.returns-in_default
-returns-in_default c = kind_last c.args.word c.in_default.in_default-own.rest
+returns-in_default c = kind_last c.args.word (search rules)

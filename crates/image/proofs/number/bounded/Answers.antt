@@ -2,12 +2,11 @@
 use mathlib.Core.Path.{◌∙◌}
 use native.Mathlib.Omega.{arith}
 use Rattle.image.proofs.ReadLaws.{stays, goes, judged, too_low, fits, too_high}
-use borrow.Author.Rules.{rules}
 use Rattle.image.proofs.number.bounded.Goals as goal
 
 pub returns-in_default : goal.returns-in_default
 returns-in_default c = let a = c.args in
-    stays c.number_from-r.result c.in_default.in_default-own.keys2 (judged a.at a.low a.stop a.why) c.number_from-r.ensures
+    stays c.number_from-r.result c.in_default.not-Got (judged a.at a.low a.stop a.why) c.number_from-r.ensures
 
 pub returns-then-n-low : goal.returns-then-n-low
 returns-then-n-low c = let a = c.args in too_low a.at a.low a.stop a.why c.in-Got.n.value c.in-Got.n.next (omega arith)

@@ -5,11 +5,10 @@ use Rattle.image.proofs.ReadLaws.{stays, goes}
 use Rattle.image.proofs.ShapeLaws.{switch_below}
 use Rattle.format.specs.Reading.{got}
 use Rattle.image.specs.Shapes.{word1}
-use borrow.Author.Rules.{rules}
 use Rattle.image.proofs.operands.if_operands.Goals as goal
 
 pub returns-in_default : goal.returns-in_default
-returns-in_default c = stays c.switch-r.result c.in_default.in_default-own.keys2 (word1 17) c.switch-r.ensures
+returns-in_default c = stays c.switch-r.result c.in_default.not-Got (word1 17) c.switch-r.ensures
 
 pub word-requires : goal.word-requires
 word-requires c = let a = c.args in omega (arith, switch_below a.image.now a.conditions a.at c.switch-r.ensures c.in-Got.is)

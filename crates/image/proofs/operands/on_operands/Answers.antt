@@ -5,15 +5,14 @@ use Rattle.image.proofs.ReadLaws.{stays, goes, under}
 use Rattle.image.proofs.ShapeLaws.{switch_below}
 use Rattle.format.specs.Reading.{got}
 use Rattle.image.specs.Shapes.{word2, last_at}
-use borrow.Author.Rules.{rules}
 use Rattle.image.proofs.operands.on_operands.Goals as goal
 
 pub returns-in_default : goal.returns-in_default
-returns-in_default c = let a = c.args in stays c.switch-r.result c.in_default.in_default-own.keys2 (last_at a.image.now 18 a.own) c.switch-r.ensures
+returns-in_default c = let a = c.args in stays c.switch-r.result c.in_default.not-Got (last_at a.image.now 18 a.own) c.switch-r.ensures
 
 pub returns-in_default-t : goal.returns-in_default-t
 returns-in_default-t c = let a = c.args in
-    stays c.bounded-t.result c.in_default-t.in_default-t-own.keys2 (word2 18 c.in-Got.s.value) c.bounded-t.ensures
+    stays c.bounded-t.result c.in_default-t.not-Got (word2 18 c.in-Got.s.value) c.bounded-t.ensures
     ∙ goes (last_at a.image.now 18 a.own) c.switch-r.ensures c.in-Got.is
 
 pub word-requires : goal.word-requires

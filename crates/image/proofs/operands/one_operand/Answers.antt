@@ -4,11 +4,10 @@ use native.Mathlib.Omega.{arith}
 use Rattle.image.proofs.ReadLaws.{stays, goes, under}
 use Rattle.format.specs.Reading.{got}
 use Rattle.image.specs.Shapes.{word1}
-use borrow.Author.Rules.{rules}
 use Rattle.image.proofs.operands.one_operand.Goals as goal
 
 pub returns-in_default : goal.returns-in_default
-returns-in_default c = stays c.bounded-r.result c.in_default.in_default-own.keys2 (word1 c.args.tag) c.bounded-r.ensures
+returns-in_default c = stays c.bounded-r.result c.in_default.not-Got (word1 c.args.tag) c.bounded-r.ensures
 
 pub word-requires : goal.word-requires
 word-requires c = let a = c.args in omega (arith, under a.image.now 7 0 a.stop a.at c.bounded-r.ensures c.in-Got.is)

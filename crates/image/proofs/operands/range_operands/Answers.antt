@@ -4,14 +4,13 @@ use native.Mathlib.Omega.{arith}
 use Rattle.image.proofs.ReadLaws.{stays, goes, under}
 use Rattle.format.specs.Reading.{got}
 use Rattle.image.specs.Shapes.{word2, high_at}
-use borrow.Author.Rules.{rules}
 use Rattle.image.proofs.operands.range_operands.Goals as goal
 
 pub returns-in_default : goal.returns-in_default
-returns-in_default c = stays c.bounded-r.result c.in_default.in_default-own.keys2 (high_at c.args.image.now) c.bounded-r.ensures
+returns-in_default c = stays c.bounded-r.result c.in_default.not-Got (high_at c.args.image.now) c.bounded-r.ensures
 
 pub returns-in_default-h : goal.returns-in_default-h
-returns-in_default-h c = stays c.bounded-h.result c.in_default-h.in_default-h-own.keys2 (word2 2 c.in-Got.lo.value) c.bounded-h.ensures
+returns-in_default-h c = stays c.bounded-h.result c.in_default-h.not-Got (word2 2 c.in-Got.lo.value) c.bounded-h.ensures
     ∙ goes (high_at c.args.image.now) c.bounded-r.ensures c.in-Got.is
 
 pub word-requires : goal.word-requires

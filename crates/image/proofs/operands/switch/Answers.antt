@@ -1,16 +1,15 @@
 -- `switch` meets its promise. Assumes nothing.
-use mathlib.Core.Path.{ap, ◌∙◌}
+use mathlib.Core.Path.{◌∙◌}
 use native.Mathlib.Omega.{arith}
 use Rattle.image.proofs.ReadLaws.{stays, goes, under}
 use Rattle.image.specs.Shapes.{switched, truth_of}
-use borrow.Author.Rules.{rules}
 use Rattle.image.proofs.operands.switch.Goals as goal
 
 pub returns-in_default : goal.returns-in_default
-returns-in_default c = stays c.bounded-r.result c.in_default.in_default-own.keys2 (truth_of c.args.image.now) c.bounded-r.ensures
+returns-in_default c = stays c.bounded-r.result c.in_default.not-Got (truth_of c.args.image.now) c.bounded-r.ensures
 
 pub returns-in_default-s : goal.returns-in_default-s
-returns-in_default-s c = stays c.bounded-s.result c.in_default-s.in_default-s-own.keys2 (switched c.in-Got.c.value) c.bounded-s.ensures
+returns-in_default-s c = stays c.bounded-s.result c.in_default-s.not-Got (switched c.in-Got.c.value) c.bounded-s.ensures
     ∙ goes (truth_of c.args.image.now) c.bounded-r.ensures c.in-Got.is
 
 pub overflow_mul-result : goal.overflow_mul-result

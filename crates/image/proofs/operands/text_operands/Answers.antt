@@ -6,11 +6,10 @@ use Rattle.image.proofs.ShapeLaws.{bytes_cut, bytes_there}
 use Prim.Native.Nat.{◌+◌}
 use Rattle.format.specs.Reading.{got}
 use Rattle.image.specs.Shapes.{bytes_at}
-use borrow.Author.Rules.{rules}
 use Rattle.image.proofs.operands.text_operands.Goals as goal
 
 pub returns-in_default : goal.returns-in_default
-returns-in_default c = stays c.bounded-r.result c.in_default.in_default-own.keys2 (bytes_at c.args.image.now) c.bounded-r.ensures
+returns-in_default c = stays c.bounded-r.result c.in_default.not-Got (bytes_at c.args.image.now) c.bounded-r.ensures
 
 pub returns-then-end-start : goal.returns-then-end-start
 returns-then-end-start c = let a = c.args in let k = c.in-Got.k in

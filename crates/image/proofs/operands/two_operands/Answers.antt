@@ -4,16 +4,15 @@ use native.Mathlib.Omega.{arith}
 use Rattle.image.proofs.ReadLaws.{stays, goes, under}
 use Rattle.format.specs.Reading.{got}
 use Rattle.image.specs.Shapes.{word2, last_at}
-use borrow.Author.Rules.{rules}
 use Rattle.image.proofs.operands.two_operands.Goals as goal
 
 pub returns-in_default : goal.returns-in_default
 returns-in_default c = let a = c.args in
-    stays c.bounded-r.result c.in_default.in_default-own.keys2 (last_at a.image.now a.tag a.second) c.bounded-r.ensures
+    stays c.bounded-r.result c.in_default.not-Got (last_at a.image.now a.tag a.second) c.bounded-r.ensures
 
 pub returns-in_default-s : goal.returns-in_default-s
 returns-in_default-s c = let a = c.args in
-    stays c.bounded-s.result c.in_default-s.in_default-s-own.keys2 (word2 a.tag c.in-Got.a.value) c.bounded-s.ensures
+    stays c.bounded-s.result c.in_default-s.not-Got (word2 a.tag c.in-Got.a.value) c.bounded-s.ensures
     ∙ goes (last_at a.image.now a.tag a.second) c.bounded-r.ensures c.in-Got.is
 
 pub word-requires : goal.word-requires

@@ -1,10 +1,7 @@
 -- `fill_nodes` meets its promise. The loop's invariant: what is still to be read and put down gives what the whole gives.
 -- The measure is what is left to read. Assumes nothing.
 use Prim.Native.Nat.{◌-◌}
-use borrow.Author.Rules.{rules}
-use native.Mathlib.Omega.{arith}
-use Rattle.image.proofs.FillLaws.{put_down, refused_at, all_down}
-use Rattle.image.specs.FilledLaws.{Filling, filling_starts}
+use Rattle.image.specs.FilledLaws.{Filling}
 use Rattle.image.specs.Word.{word_at}
 use Rattle.image.proofs.walk.fill_nodes.Given as goal
 

@@ -1,0 +1,13 @@
+-- `seek` meets its promise. The loop's invariant: the name is higher than each one before low, and lower than each one from high on. The measure
+-- is what is left between the two. Assumes nothing.
+use Prim.Native.Nat.{◌-◌, ◌≤◌}
+use Rattle.notation.specs.At.{name_at}
+use Rattle.index.specs.Listed.{names_at}
+use Rattle.index.proofs.SeekLaws.{Left}
+use Rattle.index.proofs.list.seek.Given as goal
+
+abbrev pub invariant-loop-low : goal.invariant-loop-low
+invariant-loop-low l = (l.high ≤ l.count) × Left (name_at l.text l.p) (names_at l.text l.at l.count) l.low l.high
+
+abbrev pub decreases-loop-low : goal.decreases-loop-low
+decreases-loop-low l = l.high - l.low

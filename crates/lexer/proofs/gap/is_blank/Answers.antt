@@ -1,0 +1,17 @@
+-- `is_blank` meets its promise. Assumes nothing.
+use borrow.Author.Tests.{ne_eqb}
+use Rattle.lexer.proofs.PickLaws.{pick_itself}
+use Rattle.lexer.proofs.gap.is_blank.Goals as goal
+
+pub returns-then-b-eq32 : goal.returns-then-b-eq32
+returns-then-b-eq32 c = rw c.if-b-eq32.true
+
+pub returns-then-b-eq9 : goal.returns-then-b-eq9
+returns-then-b-eq9 c = rw c.if-b-eq9.true
+
+pub returns-then-b-eq10 : goal.returns-then-b-eq10
+returns-then-b-eq10 c = rw c.if-b-eq10.true
+
+pub returns : goal.returns
+returns c = let b = c.args.b in
+    rw (ne_eqb b 32 c.if-b-eq32.false, ne_eqb b 9 c.if-b-eq9.false, ne_eqb b 10 c.if-b-eq10.false) (pick_itself _)

@@ -1,0 +1,10 @@
+-- `over` meets its promise. Assumes nothing.
+use mathlib.Core.Path.{refl}
+use native.Mathlib.Omega.{arith}
+use Rattle.walker.specs.Acts.{mode_of}
+use Rattle.walker.proofs.WalkLaws.{begins}
+use Rattle.walker.proofs.walk.over.Goals as goal
+
+pub returns : goal.returns
+unfolding mode_of
+returns c = let a = c.args in begins a.text.now 0 0 c.token_from-t.result refl (omega arith) c.token_from-t.ensures
