@@ -11,7 +11,7 @@ fn main() {
     let processor = env::var("CARGO_CFG_TARGET_ARCH").expect("cargo names the target's processor");
     if named.is_none() && processor != "x86_64" {
         eprintln!("The archive in ../target/staticlib is for x86-64, and this build is for {processor}.");
-        eprintln!("Make one for this processor with scripts/native-archive, and name its folder, target/native, in YARNSPIRE_LIB.");
+        eprintln!("Make one for this processor with scripts/native-archive {processor}, and name its folder, target/native, in YARNSPIRE_LIB.");
         exit(1);
     }
     let advice = "Make it with scripts/archive, or name the folder that holds libyarnspire.a in YARNSPIRE_LIB.";

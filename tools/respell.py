@@ -90,7 +90,8 @@ KINDS = {".antt": antt, ".rt": rt, ".edit": edit, ".md": pages}
 def main(root):
     everywhere, only = table()
     for folder, dirs, files in os.walk(root):
-        dirs[:] = sorted(d for d in dirs if d not in ("out", ".git", "target", "tools"))
+        made = re.fullmatch(r"crates/[^/]*", os.path.relpath(folder, root))
+        dirs[:] = sorted(d for d in dirs if d not in (".git", "target", "tools") and not (made and d == "out"))
         for name in sorted(files):
             turn = KINDS.get(os.path.splitext(name)[1])
             if not turn:

@@ -3,7 +3,7 @@ use Rattle.std.specs.Prelude.{ℕ, zero, suc, ◌<◌, ◌≡◌, refl, Bool, tr
 use Rattle.std.proofs.Common.{ap, sym, ◌∙◌, arith, eq-eqb, ne_eqb}
 use Rattle.std.proofs.Math.ListN.{get_or-map}
 use Rattle.notation.specs.Tree.{Name}
-use Rattle.notation.specs.Naming.{member, distinct}
+use Rattle.notation.specs.Naming.{member}
 use Rattle.notation.specs.Compile.{place}
 use Rattle.notation.specs.Patterns.{Known, none_yet, begun, ends_at, is_new, put}
 use Rattle.notation.specs.PatternsLaws.{put_at, found_at}

@@ -33,7 +33,7 @@ pub fn emit(
     ends: &mut [u16],
 ) -> Made
     requires ready { Ready text.now heads.now roots.now tables.now switches.now }
-    requires out_len { (length out.old ≡ 33792) × (length patterns.old ≡ length tables.now) × (length ends.old ≡ 512) }
+    requires lengths { (length out.old ≡ 33792) × (length patterns.old ≡ length tables.now) × (length ends.old ≡ 512) }
     ensures { (ps : List Production) → ReadsAs text.now ps → Emits ps out.new patterns.new ends.new result }
 {
     let mut stack = [0u8; 65536];

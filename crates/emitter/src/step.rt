@@ -34,7 +34,7 @@ fn stand(
     t: Token,
 ) -> State
     requires ascending { Ascending (names_of text.now heads.now) × Numbered text.now tables.now switches.now × LeafTaken text.now t }
-    requires t_value { (all (λ b. b) (short (leaf_at text.now t)) ≡ true) × Room out.old s.made (leaf_count (leaf_at text.now t)) × (length done.old ≡ 512) × (s.complete ≤ s.made.nodes) }
+    requires room { (all (λ b. b) (short (leaf_at text.now t)) ≡ true) × Room out.old s.made (leaf_count (leaf_at text.now t)) × (length done.old ≡ 512) × (s.complete ≤ s.made.nodes) }
     ensures { Grows out.old done.old s s.complete s.openers (leaf_by text.now heads.now roots.now tables.now switches.now s.made.nodes (leaf_at text.now t)) out.new done.new result }
 {
     let m = add_leaf(text, heads, roots, tables, switches, out, s.made, t);
@@ -86,7 +86,7 @@ fn enter(
     t: Token,
 ) -> State
     requires ascending { Ascending (names_of text.now tables.now) × (length patterns.old ≡ length tables.now) × Tabled (names_of text.now tables.now) (opener_at text.now t) × (10 ≤ t.symbol) × (t.symbol ≤ 13) }
-    requires name_bound { (t.name ≤ 65535) × (s.openers < 512) × (length opened.old ≡ 512) }
+    requires bounds { (t.name ≤ 65535) × (s.openers < 512) × (length opened.old ≡ 512) }
     ensures { Enters text.now (names_of text.now tables.now) patterns.old opened.old s t patterns.new opened.new result }
 {
     let made = s.made;
@@ -114,7 +114,7 @@ fn leave(
 ) -> State
     requires numbered { Numbered text.now tables.now switches.now × (length patterns.old ≡ length tables.now) × (get_or opened.now (s.openers - 1) 0 % 16 ≡ 9 → member (name_at text.now (get_or opened.now (s.openers - 1) 0 / 16)) (names_of text.now tables.now) ≡ true) }
     requires room { Room out.old s.made 1 × (length done.old ≡ 512) × (length opened.now ≡ 512) × (1 ≤ s.complete) × (s.complete ≤ s.made.nodes) × (1 ≤ s.openers) × (s.openers ≤ 512) }
-    ensures by_index { (production : Name → ℕ) → Grows out.old done.old s (s.complete - 1) (s.openers - 1) (operator_by text.now tables.now switches.now production (opener_in text.now opened.now (s.openers - 1)) (get_or done.old (s.complete - 1) 0) ∷ []) out.new done.new result }
+    ensures grows { (production : Name → ℕ) → Grows out.old done.old s (s.complete - 1) (s.openers - 1) (operator_by text.now tables.now switches.now production (opener_in text.now opened.now (s.openers - 1)) (get_or done.old (s.complete - 1) 0) ∷ []) out.new done.new result }
     ensures ends { Ends patterns.old (names_of text.now tables.now) (brought_in text.now opened.now (s.openers - 1)) (s.made.nodes - 1) patterns.new }
 {
     let m = s.made;

@@ -1,7 +1,7 @@
 -- How what a call gives becomes what its caller gives.
-use Rattle.std.specs.Prelude.{ℕ, ◌+◌, ◌-◌, ◌*◌, ◌≤◌, ◌<◌, ◌≡◌, Bool, List, [], ◌∷◌, ◌++◌, ltb, length, drop, get_or}
+use Rattle.std.specs.Prelude.{ℕ, ◌+◌, ◌*◌, ◌≤◌, ◌≡◌, Bool, List, [], ◌∷◌, ◌++◌, ltb, length, drop, get_or}
 use Rattle.std.proofs.Math.Path.{refl, ap}
-use Rattle.std.proofs.Common.{sym, ◌∙◌, subst, arith, add-one, ltb-true}
+use Rattle.std.proofs.Common.{sym, ◌∙◌, arith, add-one, ltb-true}
 use Rattle.std.proofs.Math.Bool.{true, false}
 use Rattle.format.specs.Reading.{pick}
 use Rattle.meaning.specs.State.{State as Symbols, others}
@@ -10,11 +10,11 @@ use Rattle.meaning.specs.Rules.{symbol}
 use Rattle.parts.specs.declared.outcome.Outcome.{Outcome}
 use Rattle.parts.specs.declared.outcome.Outcome.TheVariants.{Passed, Failed, Refused}
 use Rattle.parts.specs.Packed.{opened_of}
-use Rattle.parts.specs.Slots.{symbols, putting, Below, Closes}
+use Rattle.parts.specs.Slots.{symbols, putting, Below}
 use Rattle.parts.specs.SlotsLaws.{symbols_length, putting_length, putting_other, putting_more}
-use Rattle.kinds.specs.Turned.{Bounds, given_of, negated_of, restored_of, compared_of, defined_of, defined_in, ClosedOf}
+use Rattle.kinds.specs.Turned.{given_of, negated_of, restored_of, compared_of, defined_of, defined_in, ClosedOf}
 use Rattle.kinds.specs.TurnedLaws.{Stops, at_failed, at_refused, Stays, on_passed, on_refused}
-use Rattle.machine.specs.Told.{Told, came, stopped, and_then, or_else, become, after_round}
+use Rattle.machine.specs.Told.{Told, came, stopped, and_then, or_else, become}
 use Rattle.machine.specs.Ready.{read_back, Done}
 use Rattle.machine.specs.ReadyLaws.{kept_below, below_then, below_same}
 

@@ -1,5 +1,5 @@
 -- A node that was entered: what may be asked of the nodes inside it, and what is then said of it. One law a kind.
-use Rattle.std.specs.Prelude.{ℕ, zero, suc, ◌+◌, ◌-◌, ◌*◌, ◌≤◌, ◌<◌, max, ◌≡◌, refl, Bool, true, false, List, [], ◌∷◌, ◌++◌, reverse, eqb, leb, ltb, take, drop, get_or}
+use Rattle.std.specs.Prelude.{ℕ, zero, suc, ◌+◌, ◌-◌, ◌≤◌, ◌<◌, max, ◌≡◌, refl, Bool, true, false, List, [], ◌∷◌, ◌++◌, reverse, eqb, leb, ltb, take, drop, get_or}
 use Rattle.std.proofs.Math.Path.{ap}
 use Rattle.std.proofs.Common.{sym, ◌∙◌, subst, arith, length-take, length-drop, drop_of_length-le, drop-cons, le-ltb, lt-ltb, ltb-true, ltb-false, eqb-true, le-leb, leb-true}
 use Rattle.std.specs.Bool.{beq}

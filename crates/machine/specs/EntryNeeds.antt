@@ -1,5 +1,5 @@
 -- A node that was entered: what it may ask of the functions that it calls.
-use Rattle.std.specs.Prelude.{ℕ, zero, suc, ◌+◌, ◌-◌, ◌*◌, ◌≤◌, ◌<◌, ◌≡◌, refl, Bool, true, false, ltb, length, take, drop, get_or}
+use Rattle.std.specs.Prelude.{ℕ, zero, suc, ◌+◌, ◌-◌, ◌*◌, ◌≤◌, ◌<◌, ◌≡◌, refl, Bool, true, false, ltb, length, take, drop}
 use Rattle.std.proofs.Common.{ap, sym, ◌∙◌, subst, arith, length-drop, ltb-true, ltb-false}
 use mathlib.Core.List.Memᴰ
 use mathlib.Core.List.{List, [], ◌∷◌, ◌++◌, Memᴰ}
@@ -9,12 +9,11 @@ use Rattle.meaning.specs.State.{Symbol, State as Symbols}
 use Rattle.meaning.specs.Outcome.{begins, in_range, same, part, among, text}
 use Rattle.meaning.specs.Forward.{begins_fits, range_fits}
 use Rattle.meaning.specs.Inside.{Part}
-use Rattle.parts.specs.declared.outcome.Outcome.{Outcome}
 use Rattle.parts.specs.declared.outcome.Outcome.TheVariants.{Refused}
 use Rattle.kinds.specs.declared.state.State.{State}
 use Rattle.parts.specs.Packed.{opened_of}
 use Rattle.parts.specs.Slots.{symbol_at, symbols, latest_of, Below, Parts}
-use Rattle.parts.specs.Seen.{listed, seen_below}
+use Rattle.parts.specs.Seen.{seen_below}
 use Rattle.kinds.specs.Held.{env_of}
 use Rattle.kinds.specs.Turned.{Bounds, Lent}
 use Rattle.kinds.specs.TurnedLaws.{wider, lent_by}
@@ -22,7 +21,7 @@ use Rattle.machine.specs.ToldLaws.{tells_no_steps, tells_no_depth}
 use Rattle.machine.specs.Ready.{grammar_of, step_limit, depth_limit, room_limit, Ready, Done, telling}
 use Rattle.machine.specs.ReadyLaws.{kept_below, bounds_of}
 use Rattle.machine.specs.DoneLaws.{done_as, done_refused}
-use Rattle.machine.specs.EntryLaws.{Entry, below, Kind, in_image, long_text_lem}
+use Rattle.machine.specs.EntryLaws.{Entry, below, Kind, long_text_lem}
 
 -- A symbol of the slots is one of those held.
 pub symbol_held : (h : ℕ) (slots : List ℕ) (k : ℕ) → k < h → Memᴰ (symbol_at slots k) (symbols h slots)

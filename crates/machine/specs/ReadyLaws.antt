@@ -1,16 +1,15 @@
 -- What follows from what a call gives: where the next may start, and within which bounds.
-use Prim.Native.Nat.{ℕ, suc, ◌+◌, ◌-◌, ◌*◌, ◌≤◌, ◌<◌, max}
+use Prim.Native.Nat.{ℕ, ◌+◌, ◌-◌, ◌≤◌, max}
 use Rattle.std.proofs.Math.Path.{◌≡◌, refl, ap}
 use Rattle.std.proofs.Common.{sym, ◌∙◌, subst, inl, inr, arith}
-use Rattle.std.specs.Prelude.{◌⊎◌, get_or}
+use Rattle.std.specs.Prelude.{◌⊎◌}
 use mathlib.Core.List.Memᴰ
-use mathlib.Core.List.{List, [], ◌∷◌, ◌++◌, Memᴰ}
+use mathlib.Core.List.{List, ◌++◌, Memᴰ}
 use Rattle.std.proofs.Math.ListN.{length, length-append}
 use Rattle.grammar.specs.Expr.{Expr}
-use Rattle.grammar.specs.Grammar.{Grammar, node}
+use Rattle.grammar.specs.Grammar.{Grammar}
 use Rattle.meaning.specs.State.{Symbol, State as Symbols, Env}
 use Rattle.meaning.specs.Outcome.{pass, fail}
-use Rattle.meaning.specs.Cost.{Cost}
 use Rattle.meaning.specs.Kept.{kept}
 use Rattle.meaning.specs.Run.{Result, ran, refused, run}
 use Rattle.meaning.specs.Exact.{exact}
@@ -26,7 +25,7 @@ use Rattle.parts.specs.Slots.{symbols, Below}
 use Rattle.parts.specs.SlotsLaws.{symbols_length, symbols_same}
 use Rattle.kinds.specs.Held.{env_of}
 use Rattle.kinds.specs.Turned.{Bounds}
-use Rattle.machine.specs.Told.{Told, came, stopped, carry, tells}
+use Rattle.machine.specs.Told.{came, carry, tells}
 use Rattle.machine.specs.Ready.{grammar_of, step_limit, depth_limit, room_limit, Ready, read_back, Done, telling}
 
 -- ## What is said where an expression passes, and where it fails

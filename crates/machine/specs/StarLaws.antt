@@ -1,5 +1,5 @@
 -- The rounds of a Star: what holds where a round begins, and what follows from the round.
-use Rattle.std.specs.Prelude.{ℕ, ◌+◌, ◌-◌, ◌≤◌, ◌<◌, max, ◌≡◌, refl, List, ltb, length}
+use Rattle.std.specs.Prelude.{ℕ, ◌+◌, ◌-◌, ◌≤◌, ◌<◌, max, ◌≡◌, refl, List, length}
 use Rattle.std.proofs.Common.{ap, sym, ◌∙◌, subst, arith, le-ltb, lt-ltb}
 use Rattle.grammar.specs.Expr.{Star}
 use Rattle.grammar.specs.Grammar.{node}
@@ -13,8 +13,8 @@ use Rattle.parts.specs.Packed.{atOf, heldOf, steps_of, depth_of, opened_of}
 use Rattle.parts.specs.Slots.{symbols, Below}
 use Rattle.kinds.specs.Held.{env_of}
 use Rattle.kinds.specs.Turned.{Bounds}
-use Rattle.kinds.specs.TurnedLaws.{Stops, at_refused, Stays, on_refused}
-use Rattle.machine.specs.Told.{Told, came, stopped, after_round, tells, rounding}
+use Rattle.kinds.specs.TurnedLaws.{Stops, at_failed, at_refused, Stays, on_refused}
+use Rattle.machine.specs.Told.{Told, came, stopped, after_round}
 use Rattle.machine.specs.ToldLaws.{tells_no_steps, tells_star}
 use Rattle.machine.specs.Ready.{grammar_of, step_limit, depth_limit, room_limit, Ready, read_back, Done, telling, starring}
 use Rattle.machine.specs.StartLaws.{Has}
@@ -56,6 +56,7 @@ module _ (code image input before : List ℕ) (state : State) (left a at held s 
     star_refuses h i = record { says = go (opened_of r) h i ∙ follows (opened_of r) refl; frame = framed }
       where
         go : (o : Outcome) → Stops o → Stays o → read_back o after ≡ after_round here (symbols stored now) (read_back o after) again
+        go _ at_failed i = elim i [ ]
         go _ at_refused on_refused = refl
 
     pub star_ends : (s' d' : ℕ) → opened_of r ≡ Failed s' d' → {q : ℕ} → opened_of q ≡ Passed here stored s' d' → Done held before after q whole

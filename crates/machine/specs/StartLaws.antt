@@ -1,6 +1,6 @@
 -- What an expression starts from, in one number and in its parts.
 use Rattle.std.specs.Prelude.{ℕ, zero, suc, ◌+◌, ◌≤◌, ◌≡◌, refl, Bool, List, [], ◌∷◌, length, take, drop, get_or}
-use Rattle.std.proofs.Common.{ap, ◌∙◌, arith, take-take}
+use Rattle.std.proofs.Common.{◌∙◌, arith, take-take}
 use Rattle.std.proofs.Math.Path.{sym}
 use Rattle.std.proofs.Math.ListN.{length-take}
 use Rattle.format.specs.Reading.{pick}

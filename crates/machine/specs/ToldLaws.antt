@@ -2,7 +2,7 @@
 use Prim.Native.Nat.{ℕ, suc, pred, ◌+◌, ◌-◌, ◌≤◌, ◌<◌, max}
 use Rattle.std.specs.Prelude.{◌≡◌, Bool, List, [], ◌∷◌, ◌++◌, ltb, length, take, drop, get_or}
 use Rattle.std.proofs.Math.Path.{refl}
-use Rattle.std.proofs.Common.{ap, ◌∙◌, sym, add-one, sub-one}
+use Rattle.std.proofs.Common.{◌∙◌}
 use Rattle.std.proofs.Math.Bool.{true, false}
 use native.Mathlib.Omega.{arith}
 use Rattle.grammar.specs.Expr.{Expr, Empty, Byte, Range, Any, Text, Sequence, Choice, Star, Not, Call, Def, Match, Is, Isa, Exists, Block, Local, If, On}
@@ -12,7 +12,7 @@ use Rattle.meaning.specs.State.{State, Env, visible, hide, switch}
 use Rattle.meaning.specs.Outcome.{Outcome, pass, fail, begins, some, in_range, agree, pass_if, swap, restored, closed, matched, compared}
 use Rattle.meaning.specs.Cost.{Cost, nothing, enter}
 use Rattle.meaning.specs.Rules.{named, symbol}
-use Rattle.meaning.specs.Run.{Result, ran, refused, next, charge, after, on_pass, on_fail, if_consumed, round, stored, if_any, entered, run}
+use Rattle.meaning.specs.Run.{Result, ran, refused, next, charge, after, on_pass, on_fail, if_consumed, round, stored, entered, run}
 use Rattle.meaning.specs.RunLaws.{entry, without_steps, without_depth, star_round}
 use Rattle.machine.specs.Told.{Told, came, stopped, carry, and_then, or_else, become, after_round, tells, rounding}
 

@@ -1,6 +1,6 @@
 -- Two outcomes that a promise permits are equal. A function that gives an outcome in one number promises what that number opens to: the
 -- outcome is fixed, though more than one number opens to it.
-use Rattle.std.specs.Prelude.{ℕ, ◌≡◌, refl, List, length}
+use Rattle.std.specs.Prelude.{ℕ, ◌≡◌, List, length}
 use Rattle.std.proofs.Common.{ap, sym, ◌∙◌, arith}
 use Rattle.meaning.specs.State.{Env}
 use Rattle.parts.specs.declared.outcome.Outcome.{Outcome}
@@ -10,7 +10,7 @@ use Rattle.parts.specs.Packed.{opened_of}
 use Rattle.parts.specs.Slots.{symbols}
 use Rattle.parts.specs.SlotsLaws.{symbols_length, closes_once}
 use Rattle.kinds.specs.Held.{env_of}
-use Rattle.kinds.specs.Turned.{defined_in, ClosedOf}
+use Rattle.kinds.specs.Turned.{ClosedOf}
 use Rattle.machine.specs.Told.{Told}
 use Rattle.machine.specs.Ready.{read_back, Done}
 

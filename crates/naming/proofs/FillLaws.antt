@@ -9,7 +9,7 @@ use lib.ListN.{length, set, length-set}
 use borrow.Author.Tests.{eqb-true, ne_eqb}
 use Rattle.format.specs.Reading.{pick}
 use Rattle.notation.specs.Tree.{Name}
-use Rattle.notation.specs.Token.{head, bad, Lexeme}
+use Rattle.notation.specs.Token.{bad, Lexeme}
 use Rattle.notation.specs.Naming.{member}
 use Rattle.notation.specs.Compile.{place, Entry}
 use Rattle.notation.specs.Counts.{weight_of}

@@ -6,7 +6,7 @@ use mathlib.Core.List.{List, [], ◌∷◌, map}
 use native.Mathlib.Omega.{arith}
 use lib.ListN.{length, get_or}
 use Rattle.notation.specs.Tree.{Name, Production}
-use Rattle.notation.specs.Token.{Token, head, Lexeme, bare}
+use Rattle.notation.specs.Token.{Lexeme, bare}
 use Rattle.notation.specs.Notation.{Productions}
 use Rattle.notation.specs.At.{name_at}
 use Rattle.notation.specs.Lexer.{lexemes, tokens}
@@ -14,7 +14,7 @@ use Rattle.notation.specs.LexicalText.{no_way}
 use Rattle.notation.specs.Text.{ReadsAs}
 use Rattle.notation.specs.TextLaws.{one_reading}
 use Rattle.notation.specs.Naming.{names, member, distinct}
-use Rattle.notation.specs.Compile.{place, Entry, entry, count, root, roots, first, compile}
+use Rattle.notation.specs.Compile.{place, Entry, entry, count, root, roots, compile}
 use Rattle.notation.specs.CompileLaws.{member-here, member_later}
 use Rattle.notation.specs.FitLaws.{some_nodes}
 use Rattle.notation.specs.Places.{isHead, only}

@@ -1,13 +1,13 @@
 -- The groups of a number, by the bytes that stand there.
-use Prim.Native.Nat.{ℕ, suc, ◌+◌, ◌-◌, ◌*◌, ◌≤◌, ◌<◌}
-use mathlib.Core.Path.{◌≡◌, refl, ap, sym, ◌∙◌}
-use mathlib.Core.List.{List, [], ◌∷◌}
+use Prim.Native.Nat.{ℕ, ◌+◌, ◌-◌, ◌*◌, ◌≤◌, ◌<◌}
+use mathlib.Core.Path.{◌≡◌}
+use mathlib.Core.List.{List, ◌∷◌}
 use native.Mathlib.Numerals.{add-one}
 use lib.ListN.{drop, length, get_or, drop_of_length-le}
 use lib.Seq.{drop-cons}
 use borrow.Author.Tests.{lt-ltb, le-ltb, ne_eqb}
-use Rattle.format.specs.Reading.{Reading, got, fault}
-use Rattle.format.specs.Number.{first, second, third, number_at}
+use Rattle.format.specs.Reading.{got, fault}
+use Rattle.format.specs.Number.{first, second, third}
 
 module _ (image : List ℕ) (at low i b : ℕ) where
   here : b ≡ get_or image i 0 → i < length image → drop i image ≡ b ∷ drop (i + 1) image

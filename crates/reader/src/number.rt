@@ -25,6 +25,7 @@ pub enum Read {
 }
 
 // The number at a place: groups of seven bits, lowest group first, at most three bytes.
+#[tactic(auto, using(crate::proofs::Groups::first_cut, crate::proofs::Groups::first_ends, crate::proofs::Groups::first_more))]
 pub(crate) fn number_at(image: &[u8], at: usize) -> Read
     ensures { reading result ≡ number_at image.now at }
 {
@@ -46,6 +47,7 @@ pub(crate) fn number_at(image: &[u8], at: usize) -> Read
 }
 
 // The same, one group of the number having been read: `low` is what it counts.
+#[tactic(auto, using(crate::proofs::Groups::second_cut, crate::proofs::Groups::second_zero, crate::proofs::Groups::second_ends, crate::proofs::Groups::second_more))]
 fn second_group(image: &[u8], at: usize, low: u32) -> Read
     requires { (at + 1 ≤ length image.now) × (low < 128) }
     ensures { reading result ≡ second (length image.now) at low (drop (at + 1) image.now) }
@@ -74,6 +76,7 @@ fn second_group(image: &[u8], at: usize, low: u32) -> Read
 }
 
 // The same, two groups having been read. A third that still continues is one too many.
+#[tactic(auto, using(crate::proofs::Groups::third_cut, crate::proofs::Groups::third_zero, crate::proofs::Groups::third_ends, crate::proofs::Groups::third_more))]
 fn third_group(image: &[u8], at: usize, low: u32) -> Read
     requires { (at + 2 ≤ length image.now) × (low < 16384) }
     ensures { reading result ≡ third (length image.now) at low (drop (at + 2) image.now) }

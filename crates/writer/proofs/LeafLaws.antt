@@ -10,8 +10,7 @@ use borrow.Author.Tests.{eqb-true, eqb-false, leb-true}
 use mir.Val.{bool_byte}
 use Rattle.format.specs.Reading.{pick}
 use Rattle.format.specs.Written.{numbers, bit, encode_node}
-use Rattle.notation.specs.Tree.{Name, Part, Query, match, is, isa, exists, any, quoted, class, call, query, if}
-use Rattle.notation.specs.Token.{leaf}
+use Rattle.notation.specs.Tree.{Name, Part, Query, match, is, isa, exists, any, quoted, call, query, if}
 use Rattle.notation.specs.LexicalText.{no_way}
 use Rattle.notation.specs.At.{name_at, quoted_of, parts_of, class_of}
 use Rattle.notation.specs.Naming.{all}

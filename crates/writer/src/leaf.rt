@@ -28,7 +28,7 @@ pub fn add_leaf(
     t: Token,
 ) -> Made
     requires ascending { Ascending (names_of text.now heads.now) × Numbered text.now tables.now switches.now × LeafTaken text.now t }
-    requires t_value { (all (λ b. b) (short (leaf_at text.now t)) ≡ true) × Room out.old m (leaf_count (leaf_at text.now t)) }
+    requires room { (all (λ b. b) (short (leaf_at text.now t)) ≡ true) × Room out.old m (leaf_count (leaf_at text.now t)) }
     ensures { Adds out.old m out.new result (leaf_by text.now heads.now roots.now tables.now switches.now m.nodes (leaf_at text.now t)) }
 {
     let symbol = t.symbol;

@@ -1,7 +1,7 @@
 // Yarnspire: a recogniser for Nez grammars.
 //
 // Four operations, which take every text, image, input, limits and buffer, of any length, and ask nothing of their caller: `compile`, `check`, `recognise` and
-// `accepted_text`. For C and Rust: `yarnspire_compile`, `yarnspire_check` and `yarnspire_recognise`.
+// `accepted_text`. For C and Rust: `yarnspire_compile`, `yarnspire_check` and `yarnspire_recognise`, which the crate `yarnspire_c` exports under these names.
 #![tactic(auto)]
 
 ghost use Rattle.std.specs.Prelude.{◌≡◌};
@@ -16,7 +16,7 @@ pub use answer::{Answer, Verdict};
 pub use compiler::image::Compiled;
 use image::walk::{Loaded, load};
 use run::{allowed, run};
-pub use written::compile;
+pub use written::{compile, yarnspire_compile};
 
 // Says whether an image is good, or its first fault.
 pub fn check(image: &[u8]) -> Verdict
@@ -158,9 +158,8 @@ pub fn accepted_text<'a>(
     &input[..n]
 }
 
-// For C and Rust: check, with number 0 and place 0 for good. A slice is a pointer and a length there.
-#[unsafe(no_mangle)]
-pub extern "C" fn yarnspire_check(image: &[u8], number: &mut u32, place: &mut u32)
+// For C and Rust: check, with number 0 and place 0 for good.
+pub fn yarnspire_check(image: &[u8], number: &mut u32, place: &mut u32)
     ensures { Numbers image.now number.new place.new }
 {
     let verdict = check(image);
@@ -181,8 +180,7 @@ pub extern "C" fn yarnspire_check(image: &[u8], number: &mut u32, place: &mut u3
 
 // For C and Rust: recognise, with the answer in six numbers as `accepted_text` writes them. The accepted text is the input's first
 // `consumed` bytes.
-#[unsafe(no_mangle)]
-pub extern "C" fn yarnspire_recognise(
+pub fn yarnspire_recognise(
     image: &[u8],
     input: &[u8],
     steps: u32,

@@ -13,8 +13,7 @@ pub fn compile(text: &[u8], image: &mut [u8]) -> Compiled
 
 // For C and Rust: compile, with number 0 where an image is written. Then `size` is how many bytes it has; `at` is the refusal's place. Each is 0 where it says
 // nothing.
-#[unsafe(no_mangle)]
-pub extern "C" fn yarnspire_compile(
+pub fn yarnspire_compile(
     text: &[u8],
     image: &mut [u8],
     number: &mut u32,

@@ -12,7 +12,7 @@ fn before() -> String {
             "the same function of the library of commit `{}`, made as the present one is and linked beside it (`scripts/before-archive`)",
             fact("BENCH_BEFORE")
         ),
-        None => "not measured; the clone in which this ran does not have the commit that `scripts/before-archive` names".to_string(),
+        None => "not measured; the clone in which this ran lacks the commit that `scripts/before-archive` names, or the kit cannot build it".to_string(),
     }
 }
 

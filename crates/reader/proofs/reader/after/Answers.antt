@@ -1,7 +1,6 @@
 -- `after` meets its promise: by the case of what was read. Assumes nothing.
 use mathlib.Core.Path.{ap, sym}
 use Rattle.reader.specs.Meant.{reading, behind}
-use borrow.Author.Rules.{rules}
 use Rattle.reader.proofs.reader.after.Goals as goal
 
 pub returns-in-Got : goal.returns-in-Got
