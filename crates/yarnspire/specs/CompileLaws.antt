@@ -1,5 +1,5 @@
 -- How the promise of `compile` is met, and that it leaves nothing open.
-use Rattle.std.specs.Prelude.{ℕ, ◌≤◌, ◌≡◌, refl, List, ◌++◌, ◌↔◌, length, drop}
+use Rattle.std.specs.Prelude.{ℕ, ◌≡◌, List, ◌++◌, length, drop}
 use Rattle.std.proofs.Common.{ap, sym, ◌∙◌, subst, arith}
 use Rattle.grammar.specs.Grammar.{Grammar}
 use Rattle.grammar.specs.Sound.{Bytes}
@@ -7,7 +7,6 @@ use Rattle.format.specs.Written.{encode}
 use Rattle.notation.specs.Judged as answer
 use Rattle.notation.specs.Said.{Says}
 use Rattle.notation.specs.SaidLaws.{one_answer, taken_exactly, refused_exactly, good_read, good_means}
-use Rattle.notation.specs.Kept.{Taken, Due}
 use Rattle.compiler.specs.Compiles as compiler
 use Rattle.compiler.specs.CompilesLaws.{one_outcome as one_given}
 use Rattle.compiler.specs.declared.image.Compiled.{Compiled}

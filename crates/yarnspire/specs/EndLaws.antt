@@ -1,7 +1,7 @@
 -- What a run's outcome answers and leaves is what the definition says.
 use Rattle.std.specs.Prelude.{ℕ, zero, suc, ◌+◌, ◌-◌, ◌*◌, ◌≤◌, ◌<◌, max, ◌≡◌, List, [], ◌∷◌, ◌++◌, length, drop, get_or, replicate}
 use Rattle.std.proofs.Math.Path.{refl, ap, sym, subst}
-use Rattle.std.proofs.Common.{◌∙◌, append_assoc, append-nil, length-append, length-drop, take-suc, length-take-le}
+use Rattle.std.proofs.Common.{◌∙◌, append_assoc, length-append, length-drop, take-suc, length-take-le}
 use native.Mathlib.Omega.{arith}
 use Rattle.std.proofs.Math.ListN.{take}
 use Rattle.std.proofs.Math.Seq.{take_at}
@@ -9,8 +9,8 @@ use Rattle.grammar.specs.Grammar.{Grammar, size, node}
 use Rattle.meaning.specs.State.{Symbol, State, outset}
 use Rattle.meaning.specs.Outcome.{pass, fail}
 use Rattle.meaning.specs.Cost.{Cost}
-use Rattle.meaning.specs.Run.{Result, ran, refused, run}
-use Rattle.meaning.specs.Recognise.{Answer, answer_of, flat, filled, slots_after, from_start}
+use Rattle.meaning.specs.Run.{Result, ran, refused}
+use Rattle.meaning.specs.Recognise.{answer_of, flat, slots_after, from_start}
 use Rattle.meaning.specs.Demands.{number_of}
 use Rattle.parts.specs.declared.outcome.Outcome as o
 use Rattle.parts.specs.declared.outcome.Outcome.TheVariants as ov

@@ -1,5 +1,5 @@
 -- Two outcomes that a promise permits are equal: one theorem for each public function. Each is stated of the promise.
-use Rattle.std.specs.Prelude.{ℕ, ◌≤◌, ◌≡◌, refl, List, take}
+use Rattle.std.specs.Prelude.{ℕ, ◌≡◌, List, take}
 use Rattle.std.proofs.Common.{ap, sym, ◌∙◌, arith}
 use Rattle.meaning.specs.Recognise as m
 use Rattle.yarnspire.specs.declared.answer.Verdict.{Verdict}

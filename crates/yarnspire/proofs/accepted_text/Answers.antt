@@ -2,7 +2,6 @@
 use mathlib.Core.Path.{refl, sym}
 use lib.Seq.{length-take-le}
 use Rattle.yarnspire.specs.PromiseLaws.{written}
-use borrow.Author.Rules.{rules}
 use Rattle.yarnspire.proofs.accepted_text.Goals as goal
 
 pub slice_bounds-result-end : goal.slice_bounds-result-end

@@ -1,9 +1,7 @@
 -- `check` meets its promise. Assumes nothing.
 use native.Mathlib.Omega.{arith}
-use Rattle.grammar.specs.Sound.{Bytes}
 use Rattle.format.specs.Image.{read_image}
 use Rattle.yarnspire.specs.PromiseLaws.{checks, is_good, is_faulty}
-use borrow.Author.Rules.{rules}
 use Rattle.yarnspire.proofs.check.Goals as goal
 
 pub returns-then-verdict-eq0 : goal.returns-then-verdict-eq0

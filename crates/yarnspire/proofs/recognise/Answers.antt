@@ -3,7 +3,7 @@ use Prim.Native.Nat.{ℕ, ◌*◌}
 use mathlib.Core.List.{List}
 use mir.Syntax.{w8}
 use mir.Val.{Fits}
-use mathlib.Core.Path.{◌≡◌, ap, sym, ◌∙◌}
+use mathlib.Core.Path.{ap, sym, ◌∙◌}
 use lib.ListN.{length, replicate, get_or}
 use Rattle.image.specs.LoadLaws.{filled_length}
 use native.Mathlib.Omega.{arith}
@@ -13,7 +13,6 @@ use Rattle.format.specs.Image.{read_image}
 use Rattle.format.specs.RoundTrip.{exact, refusal}
 use Rattle.meaning.specs.Demands.{Entered, image_refused, input_refused, limits_refused, slots_refused}
 use Rattle.yarnspire.specs.PromiseLaws.{found_fault, fault_small, found_good, refuses, permitted, disallowed, run_asks, run_gives}
-use borrow.Author.Rules.{rules}
 use Rattle.yarnspire.proofs.recognise.Goals as goal
 
 -- Numbers that fit a byte are bytes.

@@ -1,5 +1,4 @@
 -- `yarnspire_check` meets its promise. Assumes nothing.
-use Prim.Native.Nat.{ℕ}
 use mathlib.Core.Path.{◌≡◌, refl, ap, sym}
 use native.Mathlib.Omega.{arith}
 use denote.Enum.Declared.{tag_of}
@@ -7,7 +6,6 @@ use Rattle.yarnspire.specs.contracts.answer.Verdict.{the_type}
 use Rattle.yarnspire.specs.declared.answer.Verdict.{Verdict}
 use Rattle.yarnspire.specs.declared.answer.Verdict.TheVariants.{Good, Refused}
 use Rattle.yarnspire.specs.Answer.{number_of, place_of}
-use borrow.Author.Rules.{rules}
 use Rattle.yarnspire.proofs.yarnspire_check.Goals as goal
 
 good_verdict : (v : Verdict) → tag_of the_type v ≡ 0 → v ≡ Good

@@ -1,6 +1,5 @@
 -- `yarnspire_recognise` meets its promise. Assumes nothing.
 use Rattle.yarnspire.specs.PromiseLaws.{written}
-use borrow.Author.Rules.{rules}
 use Rattle.yarnspire.proofs.yarnspire_recognise.Goals as goal
 
 pub returns : goal.returns

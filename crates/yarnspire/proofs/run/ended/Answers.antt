@@ -6,7 +6,6 @@ use native.Mathlib.Omega.{arith}
 use lib.ListN.{length, take, replicate}
 use Rattle.yarnspire.specs.Ended.{answer_for, kept_of, Kept}
 use Rattle.yarnspire.specs.EndLaws.{filled_long, filled_zeros}
-use borrow.Author.Rules.{rules}
 use Rattle.yarnspire.proofs.run.ended.Goals as goal
 
 pub overflow_mul-kept : goal.overflow_mul-kept

@@ -3,7 +3,6 @@ use mathlib.Core.Path.{refl}
 use mathlib.Core.Bool.{true}
 use lib.ListN.{replicate}
 use Rattle.yarnspire.specs.EndLaws.{start_asks, start_kept, start_ends}
-use borrow.Author.Rules.{rules}
 use Rattle.yarnspire.proofs.run.run.Goals as goal
 
 pub inside-r-requires : goal.inside-r-requires
