@@ -1,39 +1,41 @@
 // A case as a line of text. It begins with the letter of a function and the limits; then come the name, the image and the input.
 use crate::read::{bytes, count, field, front, mark, next, number, quoted};
 use crate::show::{check, recognise, text};
+use std::io;
 
 // Every line.
-pub fn each(lines: &[u8]) {
+pub fn each(out: &impl Print, lines: &[u8]) -> io::Result<()> {
     let mut at: usize = 0;
     while at < lines.len() {
         let end = mark(lines, at, b'\n');
-        run(&lines[at..end]);
+        run(out, &lines[at..end])?;
         at = end + 1;
     }
+    Ok(())
 }
 
 // A line that begins with no such letter is a comment.
-fn run(line: &[u8]) {
+fn run(out: &impl Print, line: &[u8]) -> io::Result<()> {
     if line.len() == 0 {
-        return;
+        return Ok(());
     }
     match line[0] {
-        b'c' => checked(line),
-        b'r' => limited(line, false),
-        b't' => limited(line, true),
-        _ => {}
+        b'c' => checked(out, line),
+        b'r' => limited(out, line, false),
+        b't' => limited(out, line, true),
+        _ => Ok(()),
     }
 }
 
-fn checked(line: &[u8]) {
+fn checked(out: &impl Print, line: &[u8]) -> io::Result<()> {
     let name = next(line, 0);
     let image = field(line, next(line, name));
     let b = bytes(image);
-    check(field(line, name), front(&b, count(image)));
+    check(out, field(line, name), front(&b, count(image)))
 }
 
 // Accepted text, or recognise.
-fn limited(line: &[u8], texts: bool) {
+fn limited(out: &impl Print, line: &[u8], texts: bool) -> io::Result<()> {
     let name = next(line, 0);
     let at = next(line, name);
     let image = field(line, at);
@@ -44,7 +46,8 @@ fn limited(line: &[u8], texts: bool) {
     let depth = number(line, 1);
     let room = number(line, 2);
     if texts {
-        text(
+        return text(
+            out,
             field(line, name),
             front(&b, count(image)),
             quoted(input, front(&x, count(input))),
@@ -52,14 +55,14 @@ fn limited(line: &[u8], texts: bool) {
             depth,
             room,
         );
-        return;
     }
     recognise(
+        out,
         field(line, name),
         front(&b, count(image)),
         quoted(input, front(&x, count(input))),
         steps,
         depth,
         room,
-    );
+    )
 }

@@ -8,14 +8,16 @@ mod read;
 mod show;
 
 use files::Taken;
+use std::io;
 
-fn main() {
+fn main(rt: HostRuntime) -> io::Result<()> {
+    let err = rt.stderr();
     let mut cases = [0u8; 131072];
-    let taken = files::take(b"cases", &mut cases);
+    let taken = files::take(&rt, b"cases", &mut cases);
     match taken {
-        Taken::Bytes(n) => line::each(&cases[..n]),
-        Taken::Unopened => os::fail(b"cases"),
-        Taken::Unread => os::fail(b"cases"),
+        Taken::Bytes(n) => line::each(&rt, &cases[..n])?,
+        Taken::Unopened(why) => files::fail(&err, b"cases", why)?,
+        Taken::Unread(why) => files::fail(&err, b"cases", why)?,
     }
-    large::all();
+    large::all(&rt)
 }

@@ -1,33 +1,33 @@
 // Prints a case's name with what a public function of `yarnspire` gives for it. Each call is lent nine slot numbers, each 7.
-use libc::STDOUT_FILENO;
+use std::io;
 use yarnspire::{Answer, Verdict};
 
-fn word(w: &[u8]) {
-    io::write_all(STDOUT_FILENO, w);
+fn word(out: &impl Print, w: &[u8]) -> io::Result<()> {
+    out.write_all(w)
 }
 
-fn number(before: &[u8], n: u32) {
-    io::write_all(STDOUT_FILENO, before);
-    io::print_decimal(STDOUT_FILENO, n as u64);
+fn number(out: &impl Print, before: &[u8], n: u32) -> io::Result<()> {
+    out.write_all(before)?;
+    print!(out; "{n}")
 }
 
 // The nine slot numbers, and the line's end.
-fn ended(slots: [u32; 9]) {
-    number(b", slots ", slots[0]);
-    number(b" ", slots[1]);
-    number(b" ", slots[2]);
-    number(b" ", slots[3]);
-    number(b" ", slots[4]);
-    number(b" ", slots[5]);
-    number(b" ", slots[6]);
-    number(b" ", slots[7]);
-    number(b" ", slots[8]);
-    word(b"\n");
+fn ended(out: &impl Print, slots: [u32; 9]) -> io::Result<()> {
+    number(out, b", slots ", slots[0])?;
+    number(out, b" ", slots[1])?;
+    number(out, b" ", slots[2])?;
+    number(out, b" ", slots[3])?;
+    number(out, b" ", slots[4])?;
+    number(out, b" ", slots[5])?;
+    number(out, b" ", slots[6])?;
+    number(out, b" ", slots[7])?;
+    number(out, b" ", slots[8])?;
+    word(out, b"\n")
 }
 
 // An answer, and the slots after it.
-pub fn answered(name: &[u8], answer: Answer, slots: [u32; 9]) {
-    word(name);
+pub fn answered(out: &impl Print, name: &[u8], answer: Answer, slots: [u32; 9]) -> io::Result<()> {
+    word(out, name)?;
     match answer {
         Answer::Accepted {
             consumed,
@@ -35,14 +35,14 @@ pub fn answered(name: &[u8], answer: Answer, slots: [u32; 9]) {
             depth,
             symbols,
         } => {
-            number(b": accept ", consumed);
-            number(b" steps ", steps);
-            number(b" depth ", depth);
-            number(b" symbols ", symbols);
+            number(out, b": accept ", consumed)?;
+            number(out, b" steps ", steps)?;
+            number(out, b" depth ", depth)?;
+            number(out, b" symbols ", symbols)?;
         }
         Answer::Failed { steps, depth } => {
-            number(b": fail steps ", steps);
-            number(b" depth ", depth);
+            number(out, b": fail steps ", steps)?;
+            number(out, b" depth ", depth)?;
         }
         Answer::Refused {
             number: n,
@@ -50,38 +50,46 @@ pub fn answered(name: &[u8], answer: Answer, slots: [u32; 9]) {
             steps,
             depth,
         } => {
-            number(b": refuse ", n);
-            number(b" place ", place);
-            number(b" steps ", steps);
-            number(b" depth ", depth);
+            number(out, b": refuse ", n)?;
+            number(out, b" place ", place)?;
+            number(out, b" steps ", steps)?;
+            number(out, b" depth ", depth)?;
         }
     }
-    ended(slots);
+    ended(out, slots)
 }
 
 // Check.
-pub fn check(name: &[u8], image: &[u8]) {
+pub fn check(out: &impl Print, name: &[u8], image: &[u8]) -> io::Result<()> {
     let verdict = yarnspire::check(image);
-    word(name);
+    word(out, name)?;
     match verdict {
-        Verdict::Good => word(b": good"),
+        Verdict::Good => word(out, b": good")?,
         Verdict::Refused { number: n, place } => {
-            number(b": refuse ", n);
-            number(b" place ", place);
+            number(out, b": refuse ", n)?;
+            number(out, b" place ", place)?;
         }
     }
-    word(b"\n");
+    word(out, b"\n")
 }
 
 // Recognise, with the limits B, D and R.
-pub fn recognise(name: &[u8], image: &[u8], input: &[u8], steps: u32, depth: u32, room: u32) {
+pub fn recognise(
+    out: &impl Print,
+    name: &[u8],
+    image: &[u8],
+    input: &[u8],
+    steps: u32,
+    depth: u32,
+    room: u32,
+) -> io::Result<()> {
     let mut slots = [7u32; 9];
     let answer = yarnspire::recognise(image, input, steps, depth, room, &mut slots);
-    answered(name, answer, slots);
+    answered(out, name, answer, slots)
 }
 
 // Recognise, with the greatest limits and as many slots as they ask for, each 7; the first nine are printed.
-pub fn ample(name: &[u8], image: &[u8], input: &[u8]) {
+pub fn ample(out: &impl Print, name: &[u8], image: &[u8], input: &[u8]) -> io::Result<()> {
     let mut slots = [7u32; 768];
     let answer = yarnspire::recognise(image, input, 1000000, 256, 256, &mut slots);
     let mut first = [0u32; 9];
@@ -94,11 +102,19 @@ pub fn ample(name: &[u8], image: &[u8], input: &[u8]) {
     first[6] = slots[6];
     first[7] = slots[7];
     first[8] = slots[8];
-    answered(name, answer, first);
+    answered(out, name, answer, first)
 }
 
 // Accepted text: the part handed back, and the six numbers, each 7 before the call.
-pub fn text(name: &[u8], image: &[u8], input: &[u8], steps: u32, depth: u32, room: u32) {
+pub fn text(
+    out: &impl Print,
+    name: &[u8],
+    image: &[u8],
+    input: &[u8],
+    steps: u32,
+    depth: u32,
+    room: u32,
+) -> io::Result<()> {
     let mut slots = [7u32; 9];
     let mut kind = 7u32;
     let mut consumed = 7u32;
@@ -120,14 +136,14 @@ pub fn text(name: &[u8], image: &[u8], input: &[u8], steps: u32, depth: u32, roo
         &mut symbols,
         &mut place,
     );
-    word(name);
-    word(b": text \"");
-    word(front);
-    number(b"\", ", kind);
-    number(b" ", consumed);
-    number(b" ", count);
-    number(b" ", deepest);
-    number(b" ", symbols);
-    number(b" ", place);
-    ended(slots);
+    word(out, name)?;
+    word(out, b": text \"")?;
+    word(out, front)?;
+    number(out, b"\", ", kind)?;
+    number(out, b" ", consumed)?;
+    number(out, b" ", count)?;
+    number(out, b" ", deepest)?;
+    number(out, b" ", symbols)?;
+    number(out, b" ", place)?;
+    ended(out, slots)
 }

@@ -2,23 +2,20 @@
 use crate::line::line_of;
 use crate::show::{say, show};
 use crate::words::reason;
-use libc::STDERR_FILENO;
+use std::io;
 
 // PATH:LINE:COLUMN: what is wrong, and the refusal's number. Below it the line, and a mark under the place.
-pub fn tell(path: &[u8], text: &[u8], number: u32, at: usize) {
+pub fn tell(err: &impl Print, path: &[u8], text: &[u8], number: u32, at: usize) -> io::Result<()> {
     let line = line_of(text, at);
-    say(path);
-    count(line.number);
-    count(line.column);
-    say(b":");
-    reason(text, number, at);
-    say(b" (refusal ");
-    io::print_decimal(STDERR_FILENO, number as u64);
-    say(b")\n");
-    show(text, line.offset, at);
+    say(err, path)?;
+    count(err, line.number)?;
+    count(err, line.column)?;
+    say(err, b":")?;
+    reason(err, text, number, at)?;
+    println!(err; " (refusal {number})")?;
+    show(err, text, line.offset, at)
 }
 
-fn count(n: usize) {
-    say(b":");
-    io::print_decimal(STDERR_FILENO, n as u64);
+fn count(err: &impl Print, n: usize) -> io::Result<()> {
+    print!(err; ":{n}")
 }

@@ -10,48 +10,45 @@ mod show;
 mod which;
 mod words;
 
-use files::Taken;
-use libc::{STDERR_FILENO, STDOUT_FILENO};
+use files::{Taken, argument};
+use std::io;
+use std::rt::Files;
 use yarnspire::Compiled;
 
-fn main() {
-    let words = os::arg_count();
-    if words < 2 {
-        read(b"grammar");
-        return;
+fn main(rt: HostRuntime) -> io::Result<()> {
+    let err = rt.stderr();
+    if !argument::given(&rt, 1) {
+        return read(&rt, &err, b"grammar");
     }
-    if 2 < words {
-        io::write_all(STDERR_FILENO, b"usage: compile [TEXT]\n");
-        return;
+    if argument::given(&rt, 2) {
+        return err.write_all(b"usage: compile [TEXT]\n");
     }
-    let mut name = io::buffer();
-    let length = os::arg(1, &mut name);
-    if os::errno() != 0 {
-        os::fail(b"the text's name");
-        return;
+    let mut name = [0u8; 4096];
+    match argument::word(&rt, 1, &mut name) {
+        Ok(length) => read(&rt, &err, &name[..length]),
+        Err(why) => files::fail(&err, b"the text's name", why),
     }
-    read(&name[..length]);
 }
 
 // One byte more than a text may have is enough to see that it has too many.
-fn read(path: &[u8]) {
-    let mut text = io::large_buffer();
-    let taken = files::take(path, &mut text);
+fn read(rt: &(impl Files + Print), err: &impl Print, path: &[u8]) -> io::Result<()> {
+    let mut text = [0u8; 65536];
+    let taken = files::take(rt, path, &mut text);
     match taken {
-        Taken::Bytes(n) => write(path, &text[..n]),
-        Taken::Unopened => os::fail(path),
-        Taken::Unread => os::fail(path),
+        Taken::Bytes(n) => write(rt, err, path, &text[..n]),
+        Taken::Unopened(why) => files::fail(err, path, why),
+        Taken::Unread(why) => files::fail(err, path, why),
     }
 }
 
-fn write(path: &[u8], text: &[u8]) {
+fn write(out: &impl Print, err: &impl Print, path: &[u8], text: &[u8]) -> io::Result<()> {
     let mut image = [0u8; 16384];
     let compiled = yarnspire::compile(text, &mut image);
     match compiled {
         Compiled::Written(n) => {
             let length = n as usize;
-            io::write_all(STDOUT_FILENO, &image[..length]);
+            out.write_all(&image[..length])
         }
-        Compiled::Refused { number, at } => fault::tell(path, text, number, at as usize),
+        Compiled::Refused { number, at } => fault::tell(err, path, text, number, at as usize),
     }
 }

@@ -1,23 +1,23 @@
 // How a line is shown, with its place.
 use crate::line::follows;
 use crate::look::{ahead, find};
-use libc::STDERR_FILENO;
+use std::io;
 
 // The line, and below it a mark under the place. What is over 80 bytes before the place or behind it is left out. Of an empty line nothing is shown.
-pub fn show(text: &[u8], offset: usize, at: usize) {
+pub fn show(err: &impl Print, text: &[u8], offset: usize, at: usize) -> io::Result<()> {
     let from = back(at, up_to(80, 0, offset));
     let end = find(text, at, b'\n');
     let to = up_to(80, at, end);
     if to <= from {
-        return;
+        return Ok(());
     }
     let mark = dot(offset);
-    say(&[b' ', b' ', mark, mark]);
-    put(text, from, to, false);
-    cut(to, end);
-    say(b"\n    ");
-    put(text, from, at, true);
-    say(b"^\n");
+    say(err, &[b' ', b' ', mark, mark])?;
+    put(err, text, from, to, false)?;
+    cut(err, to, end)?;
+    say(err, b"\n    ")?;
+    put(err, text, from, at, true)?;
+    say(err, b"^\n")
 }
 
 fn back(at: usize, n: usize) -> usize {
@@ -38,25 +38,26 @@ pub fn up_to(most: usize, from: usize, end: usize) -> usize {
     from + most
 }
 
-pub fn say(words: &[u8]) {
-    io::write_all(STDERR_FILENO, words);
+pub fn say(err: &impl Print, words: &[u8]) -> io::Result<()> {
+    err.write_all(words)
 }
 
-pub fn part(text: &[u8], from: usize, to: usize) {
+pub fn part(err: &impl Print, text: &[u8], from: usize, to: usize) -> io::Result<()> {
     if text.len() < to {
-        return;
+        return Ok(());
     }
     if to < from {
-        return;
+        return Ok(());
     }
-    say(&text[from..to]);
+    say(err, &text[from..to])
 }
 
 // Dots where something is left out between the two places.
-pub fn cut(from: usize, to: usize) {
+pub fn cut(err: &impl Print, from: usize, to: usize) -> io::Result<()> {
     if from < to {
-        say(b"..");
+        return say(err, b"..");
     }
+    Ok(())
 }
 
 fn dot(offset: usize) -> u8 {
@@ -67,18 +68,18 @@ fn dot(offset: usize) -> u8 {
 }
 
 // The bytes between two places, or the blanks below them.
-fn put(text: &[u8], from: usize, to: usize, below: bool) {
-    let mut i = from;
-    while i < to {
-        one(glyph(ahead(text, i, 0), below));
-        i += 1;
+fn put(err: &impl Print, text: &[u8], from: usize, to: usize, below: bool) -> io::Result<()> {
+    for i in from..to {
+        one(err, glyph(ahead(text, i, 0), below))?;
     }
+    Ok(())
 }
 
-fn one(b: u8) {
+fn one(err: &impl Print, b: u8) -> io::Result<()> {
     if b != 0 {
-        say(&[b]);
+        return say(err, &[b]);
     }
+    Ok(())
 }
 
 // A control byte is shown as a question mark, but a carriage return not at all; a tab stays one, also below, so that the mark comes under its place.

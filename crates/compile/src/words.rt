@@ -5,15 +5,16 @@ use crate::look::{ahead, find};
 use crate::show::{cut, hidden, part, up_to};
 use crate::which::{case_of, state_of};
 use lexer::name::name_end;
-use libc::STDERR_FILENO;
+use std::io;
 
 // A line of the table is its case, two bytes; its mark, which may be empty; a blank; and the words. The first line holds whose case is that of the refusal
 // and with whose mark the text goes on at the place. In both . is any byte, A a letter, N a digit, H a byte beyond ASCII, C a control byte. In the
 // words, @ is what stands at the place.
-pub fn reason(text: &[u8], number: u32, at: usize) {
+pub fn reason(err: &impl Print, text: &[u8], number: u32, at: usize) -> io::Result<()> {
     let case = case_of(text, number, at);
     let state = state_of(text, at);
     tell(
+        err,
         b"
 1i no table is called @: a table is made by <def TABLE expression>
 1. no production is called @: is it misspelt, is its = missing, or is it text that needs quotes?
@@ -81,20 +82,26 @@ E. the text ends before the ) or > of what is open
         state,
         text,
         at,
-    );
+    )
 }
 
-fn tell(table: &[u8], case: u8, state: u8, text: &[u8], at: usize) {
+fn tell(
+    err: &impl Print,
+    table: &[u8],
+    case: u8,
+    state: u8,
+    text: &[u8],
+    at: usize,
+) -> io::Result<()> {
     let from = words_for(table, case, state, text, at);
     let end = find(table, from, b'\n');
     let place = find(table, from, b'@');
     if end <= place {
-        part(table, from, end);
-        return;
+        return part(err, table, from, end);
     }
-    part(table, from, place);
-    thing(text, at);
-    part(table, place + 1, end);
+    part(err, table, from, place)?;
+    thing(err, text, at)?;
+    part(err, table, place + 1, end)
 }
 
 // Where the words begin, with the blank before them.
@@ -142,19 +149,18 @@ fn between(lo: u8, hi: u8, b: u8) -> bool {
 }
 
 // The name at a place, of which a long one is cut; or the byte there.
-fn thing(text: &[u8], at: usize) {
+fn thing(err: &impl Print, text: &[u8], at: usize) -> io::Result<()> {
     if text.len() <= at {
-        return;
+        return Ok(());
     }
     let b = text[at];
     if hidden(b) {
-        io::print_hex(STDERR_FILENO, wide(b), 2);
-        return;
+        return print!(err; "{:02x}", wide(b));
     }
     let end = later(at + 1, name_end(text, at));
     let to = up_to(64, at, end);
-    part(text, at, to);
-    cut(to, end);
+    part(err, text, at, to)?;
+    cut(err, to, end)
 }
 
 fn wide(b: u8) -> u64 {

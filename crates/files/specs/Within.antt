@@ -5,5 +5,5 @@ use Rattle.files.specs.declared.Taken.TheVariants.{Bytes, Unopened, Unread}
 
 abbrev pub Within : ℕ → Taken → Type 0
 Within room (Bytes n) = n ≤ room
-Within room Unopened = Unit {0}
-Within room Unread = Unit {0}
+Within room (Unopened why) = Unit {0}
+Within room (Unread why) = Unit {0}

@@ -4,77 +4,71 @@
 
 mod listing;
 
-use files::Taken;
-use libc::{STDERR_FILENO, STDOUT_FILENO};
+use files::{Taken, argument};
+use std::io;
+use std::rt::Files;
 
-fn main() {
-    let words = os::arg_count();
-    if words < 2 {
-        inspect(b"rules");
-        return;
+fn main(rt: HostRuntime) -> io::Result<()> {
+    let err = rt.stderr();
+    if !argument::given(&rt, 1) {
+        return inspect(&rt, &err, b"rules");
     }
-    if 2 < words {
-        io::write_all(STDERR_FILENO, b"usage: inspect [IMAGE]\n");
-        return;
+    if argument::given(&rt, 2) {
+        return err.write_all(b"usage: inspect [IMAGE]\n");
     }
-    let mut name = io::buffer();
-    let length = os::arg(1, &mut name);
-    if os::errno() != 0 {
-        os::fail(b"the image's name");
-        return;
+    let mut name = [0u8; 4096];
+    match argument::word(&rt, 1, &mut name) {
+        Ok(length) => inspect(&rt, &err, &name[..length]),
+        Err(why) => files::fail(&err, b"the image's name", why),
     }
-    inspect(&name[..length]);
 }
 
 // One byte more than an image may have is enough to see that it has too many.
-fn inspect(path: &[u8]) {
+fn inspect(rt: &(impl Files + Print), err: &impl Print, path: &[u8]) -> io::Result<()> {
     let mut image = [0u8; 16385];
-    let taken = files::take(path, &mut image);
+    let taken = files::take(rt, path, &mut image);
     match taken {
-        Taken::Bytes(n) => describe(&image[..n]),
-        Taken::Unopened => os::fail(path),
-        Taken::Unread => os::fail(path),
+        Taken::Bytes(n) => describe(rt, &image[..n]),
+        Taken::Unopened(why) => files::fail(err, path, why),
+        Taken::Unread(why) => files::fail(err, path, why),
     }
 }
 
-fn describe(image: &[u8]) {
+fn describe(out: &impl Print, image: &[u8]) -> io::Result<()> {
     let mut code = [0u32; 524];
     let found = image::load(image, &mut code);
     match found {
         image::walk::Loaded::Good(tables, conditions, nodes, start) => {
-            listing::counted(b"tables ", tables);
-            listing::counted(b"conditions ", conditions);
-            listing::counted(b"nodes ", nodes);
-            listing::counted(b"start ", start);
-            patterns(&code, tables);
-            nodes_of(image, &code, nodes);
+            listing::counted(out, b"tables ", tables)?;
+            listing::counted(out, b"conditions ", conditions)?;
+            listing::counted(out, b"nodes ", nodes)?;
+            listing::counted(out, b"start ", start)?;
+            patterns(out, &code, tables)?;
+            nodes_of(out, image, &code, nodes)
         }
         image::walk::Loaded::Refused(f) => {
-            io::write_all(STDOUT_FILENO, b"refuse ");
-            io::print_decimal(STDOUT_FILENO, f.number as u64);
-            io::write_all(STDOUT_FILENO, b" ");
-            io::print_decimal(STDOUT_FILENO, f.place as u64);
-            listing::reason(f.number);
+            let number = f.number;
+            let place = f.place;
+            print!(out; "refuse {number} {place}")?;
+            listing::reason(out, number)
         }
     }
 }
 
-fn patterns(code: &[u32; 524], tables: u32) {
-    let mut t = 0;
-    while t < 8 {
+fn patterns(out: &impl Print, code: &[u32; 524], tables: u32) -> io::Result<()> {
+    for t in 0..8u32 {
         if t < tables {
-            listing::pattern(t, code[(512 + t) as usize]);
+            listing::pattern(out, t, code[(512 + t) as usize])?;
         }
-        t += 1;
     }
+    Ok(())
 }
 
-fn nodes_of(image: &[u8], code: &[u32; 524], nodes: u32) {
-    let mut n = 0;
-    while n < 512 {
+fn nodes_of(out: &impl Print, image: &[u8], code: &[u32; 524], nodes: u32) -> io::Result<()> {
+    for n in 0..512u32 {
         if n < nodes {
-            listing::node(image, n, code[n as usize]);
+            listing::node(out, image, n, code[n as usize])?;
         }
-        n += 1;
     }
+    Ok(())
 }

@@ -1,6 +1,9 @@
 // Like `recognise`, and lists below the answer the symbols that are held: table, start, end and text.
 #![tactic(auto)]
 
-fn main() {
-    office::program(b"usage: names [RULES TEXT]\n", true);
+use std::io;
+
+fn main(rt: HostRuntime) -> io::Result<()> {
+    let err = rt.stderr();
+    office::program(&rt, &err, b"usage: names [RULES TEXT]\n", true)
 }

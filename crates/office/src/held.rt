@@ -1,71 +1,61 @@
 // The symbols held, one line each: table, start, end and text.
-use libc::STDOUT_FILENO;
+use std::io;
 
 // The first `symbols` of the slots, oldest first.
-pub fn list(input: &[u8], slots: &[u32; 768], symbols: u32) {
-    let mut i = 0;
-    while i < 256 {
+pub fn list(out: &impl Print, input: &[u8], slots: &[u32; 768], symbols: u32) -> io::Result<()> {
+    for i in 0..256u32 {
         if i < symbols {
             line(
+                out,
                 input,
                 slots[(3 * i) as usize],
                 slots[(3 * i + 1) as usize],
                 slots[(3 * i + 2) as usize],
-            );
+            )?;
         }
-        i += 1;
     }
+    Ok(())
 }
 
-fn line(input: &[u8], table: u32, start: u32, end: u32) {
-    io::print_decimal(STDOUT_FILENO, table as u64);
-    io::write_all(STDOUT_FILENO, b" ");
-    io::print_decimal(STDOUT_FILENO, start as u64);
-    io::write_all(STDOUT_FILENO, b" ");
-    io::print_decimal(STDOUT_FILENO, end as u64);
-    io::write_all(STDOUT_FILENO, b" ");
-    text(input, start as usize, end as usize);
-    io::write_all(STDOUT_FILENO, b"\n");
+fn line(out: &impl Print, input: &[u8], table: u32, start: u32, end: u32) -> io::Result<()> {
+    print!(out; "{table} {start} {end} ")?;
+    text(out, input, start as usize, end as usize)?;
+    out.write_all(b"\n")
 }
 
 // A part of the input, in quotes.
-fn text(input: &[u8], start: usize, end: usize) {
+fn text(out: &impl Print, input: &[u8], start: usize, end: usize) -> io::Result<()> {
     if input.len() < end {
-        return;
+        return Ok(());
     }
     if end < start {
-        return;
+        return Ok(());
     }
     let bytes = &input[start..end];
-    io::write_all(STDOUT_FILENO, b"\"");
-    let mut i = 0;
-    while i < bytes.len() {
-        byte(bytes[i]);
-        i += 1;
+    out.write_all(b"\"")?;
+    for b in bytes {
+        byte(out, *b)?;
     }
-    io::write_all(STDOUT_FILENO, b"\"");
+    out.write_all(b"\"")
 }
 
 // A byte that can be read as it is; a quote, a backslash and any other byte behind a backslash.
-fn byte(b: u8) {
+fn byte(out: &impl Print, b: u8) -> io::Result<()> {
     if b < 32 {
-        hex(b);
-        return;
+        return hex(out, b);
     }
     if 126 < b {
-        hex(b);
-        return;
+        return hex(out, b);
     }
     if b == b'"' {
-        io::write_all(STDOUT_FILENO, b"\\");
+        out.write_all(b"\\")?;
     }
     if b == b'\\' {
-        io::write_all(STDOUT_FILENO, b"\\");
+        out.write_all(b"\\")?;
     }
-    io::write_all(STDOUT_FILENO, &[b]);
+    out.write_all(&[b])
 }
 
-fn hex(b: u8) {
-    io::write_all(STDOUT_FILENO, b"\\x");
-    io::print_hex(STDOUT_FILENO, b as u64, 2);
+fn hex(out: &impl Print, b: u8) -> io::Result<()> {
+    print!(out; "\\x{b:02x}")
 }

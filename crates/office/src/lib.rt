@@ -3,73 +3,87 @@
 
 mod held;
 
-use files::Taken;
-use libc::{STDERR_FILENO, STDOUT_FILENO};
+use files::{Taken, argument};
+use std::env::Env;
+use std::io;
+use std::rt::Files;
 use yarnspire::Answer;
 
 // Runs the two files that the arguments name, or `rules` and `text` where there is no argument. With `names` the symbols held are listed below
 // the answer.
-pub fn program(usage: &[u8], names: bool) {
-    let words = os::arg_count();
-    if words < 2 {
-        read_rules(b"rules", b"text", names);
-        return;
+pub fn program(
+    rt: &(impl Env + Files + Print),
+    err: &impl Print,
+    usage: &[u8],
+    names: bool,
+) -> io::Result<()> {
+    if !argument::given(rt, 1) {
+        return read_rules(rt, err, b"rules", b"text", names);
     }
-    if words != 3 {
-        io::write_all(STDERR_FILENO, usage);
-        return;
+    if !argument::given(rt, 2) || argument::given(rt, 3) {
+        return err.write_all(usage);
     }
-    let mut rules = io::buffer();
-    let long = os::arg(1, &mut rules);
-    if os::errno() != 0 {
-        os::fail(b"the first name");
-        return;
-    }
-    let mut text = io::buffer();
-    let wide = os::arg(2, &mut text);
-    if os::errno() != 0 {
-        os::fail(b"the second name");
-        return;
-    }
-    read_rules(&rules[..long], &text[..wide], names);
+    let mut rules = [0u8; 4096];
+    let long = match argument::word(rt, 1, &mut rules) {
+        Ok(n) => n,
+        Err(why) => return files::fail(err, b"the first name", why),
+    };
+    let mut text = [0u8; 4096];
+    let wide = match argument::word(rt, 2, &mut text) {
+        Ok(n) => n,
+        Err(why) => return files::fail(err, b"the second name", why),
+    };
+    read_rules(rt, err, &rules[..long], &text[..wide], names)
 }
 
 // A file that cannot be opened counts as empty, and standard error says so; one that cannot be read to its end gets no answer. One byte more
 // than an image may have is enough to see that it has too many.
-fn read_rules(rules: &[u8], text: &[u8], names: bool) {
+fn read_rules(
+    rt: &(impl Files + Print),
+    err: &impl Print,
+    rules: &[u8],
+    text: &[u8],
+    names: bool,
+) -> io::Result<()> {
     let mut image = [0u8; 16385];
-    let taken = files::take(rules, &mut image);
+    let taken = files::take(rt, rules, &mut image);
     match taken {
-        Taken::Bytes(n) => read_text(&image[..n], text, names),
-        Taken::Unopened => {
-            os::fail(rules);
-            read_text(b"", text, names);
+        Taken::Bytes(n) => read_text(rt, err, &image[..n], text, names),
+        Taken::Unopened(why) => {
+            files::fail(err, rules, why)?;
+            read_text(rt, err, b"", text, names)
         }
-        Taken::Unread => os::fail(rules),
+        Taken::Unread(why) => files::fail(err, rules, why),
     }
 }
 
 // Likewise, for the input.
-fn read_text(image: &[u8], text: &[u8], names: bool) {
-    let mut input = io::large_buffer();
-    let taken = files::take(text, &mut input);
+fn read_text(
+    rt: &(impl Files + Print),
+    err: &impl Print,
+    image: &[u8],
+    text: &[u8],
+    names: bool,
+) -> io::Result<()> {
+    let mut input = [0u8; 65536];
+    let taken = files::take(rt, text, &mut input);
     match taken {
-        Taken::Bytes(n) => answer(image, &input[..n], names),
-        Taken::Unopened => {
-            os::fail(text);
-            answer(image, b"", names);
+        Taken::Bytes(n) => answer(rt, image, &input[..n], names),
+        Taken::Unopened(why) => {
+            files::fail(err, text, why)?;
+            answer(rt, image, b"", names)
         }
-        Taken::Unread => os::fail(text),
+        Taken::Unread(why) => files::fail(err, text, why),
     }
 }
 
-fn number(before: &[u8], n: u32) {
-    io::write_all(STDOUT_FILENO, before);
-    io::print_decimal(STDOUT_FILENO, n as u64);
+fn number(out: &impl Print, before: &[u8], n: u32) -> io::Result<()> {
+    out.write_all(before)?;
+    print!(out; "{n}")
 }
 
 // The answer's line, and below it the symbols held.
-fn answer(image: &[u8], input: &[u8], names: bool) {
+fn answer(out: &impl Print, image: &[u8], input: &[u8], names: bool) -> io::Result<()> {
     let mut slots = [0u32; 768];
     let answer = yarnspire::recognise(image, input, 1000000, 256, 256, &mut slots);
     match answer {
@@ -79,19 +93,20 @@ fn answer(image: &[u8], input: &[u8], names: bool) {
             depth,
             symbols,
         } => {
-            number(b"accept ", consumed);
-            number(b" ", steps);
-            number(b" ", depth);
-            number(b" ", symbols);
-            io::write_all(STDOUT_FILENO, b"\n");
+            number(out, b"accept ", consumed)?;
+            number(out, b" ", steps)?;
+            number(out, b" ", depth)?;
+            number(out, b" ", symbols)?;
+            out.write_all(b"\n")?;
             if names {
-                held::list(input, &slots, symbols);
+                held::list(out, input, &slots, symbols)?;
             }
+            Ok(())
         }
         Answer::Failed { steps, depth } => {
-            number(b"fail ", steps);
-            number(b" ", depth);
-            io::write_all(STDOUT_FILENO, b"\n");
+            number(out, b"fail ", steps)?;
+            number(out, b" ", depth)?;
+            out.write_all(b"\n")
         }
         Answer::Refused {
             number: why,
@@ -99,9 +114,9 @@ fn answer(image: &[u8], input: &[u8], names: bool) {
             steps: _,
             depth: _,
         } => {
-            number(b"refuse ", why);
-            number(b" ", place);
-            io::write_all(STDOUT_FILENO, b"\n");
+            number(out, b"refuse ", why)?;
+            number(out, b" ", place)?;
+            out.write_all(b"\n")
         }
     }
 }

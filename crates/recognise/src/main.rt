@@ -1,6 +1,9 @@
 // Recognises the file `text` by the grammar whose image is the file `rules`, and says what came of it in one line.
 #![tactic(auto)]
 
-fn main() {
-    office::program(b"usage: recognise [RULES TEXT]\n", false);
+use std::io;
+
+fn main(rt: HostRuntime) -> io::Result<()> {
+    let err = rt.stderr();
+    office::program(&rt, &err, b"usage: recognise [RULES TEXT]\n", false)
 }
