@@ -69,11 +69,10 @@ def rt(text, names):
 
 
 def edit(text, names):
-    of_antt = re.search(r"(?m)^file: .*\.antt\s*$", text)
     lines = []
     for line in text.split("\n"):
         if line.startswith(("old: ", "new: ")):
-            lines.append(turned(line, names) if of_antt else rt(line, names))
+            lines.append(turned(line, names))
         else:
             lines.append(spans(line, names))
     return "\n".join(lines)

@@ -14,7 +14,7 @@ use Rattle.notation.specs.Token.{Lexeme}
 use Rattle.notation.specs.LexicalText.{no_way}
 use Rattle.notation.specs.Compile.{compile}
 use Rattle.notation.specs.Lexer.{lexemes}
-use Rattle.notation.specs.Places.{namePlace}
+use Rattle.notation.specs.Places.{name_place}
 use Rattle.notation.specs.PlacesLaws.{is_none, image_place}
 use Rattle.notation.specs.Judged.{Answer, good, refused, or_else}
 use Rattle.notation.specs.Said.{Says}
@@ -57,15 +57,15 @@ module _ (name : Lexeme → ℕ) where
   by_nothing none e h = refl
   by_nothing (some l) e h = no_way (cc)
 
-module _ {text : List ℕ} (short : length text ≤ 65535) {ps : List Production} (p : Passes text ps) {f : Found} (e : f ≡ found (namePlace text) (over_image text ps)) where
+module _ {text : List ℕ} (short : length text ≤ 65535) {ps : List Production} (p : Passes text ps) {f : Found} (e : f ≡ found (name_place text) (over_image text ps)) where
   -- The image is too long with a production.
   pub over_said : {q : ℕ} → f ≡ At q → (room : ℕ) → Says text room (refused 24 q)
-  over_said h room = subst (Says text room) (by_found (namePlace text) (over_image text ps) _ e h) (said_passed short p room)
+  over_said h room = subst (Says text room) (by_found (name_place text) (over_image text ps) _ e h) (said_passed short p room)
 
   -- It is not too long.
   module _ (h : f ≡ Nowhere) where
     nothing_over : over_image text ps ≡ none
-    nothing_over = by_nothing (namePlace text) (over_image text ps) e h
+    nothing_over = by_nothing (name_place text) (over_image text ps) e h
 
     pub image_short : length (encode (compile ps)) ≤ 16384
     image_short =

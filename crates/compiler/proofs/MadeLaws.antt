@@ -10,7 +10,7 @@ use Rattle.notation.specs.Tree.{Production}
 use Rattle.notation.specs.Lexer.{lexemes}
 use Rattle.notation.specs.Text.{ReadsAs}
 use Rattle.notation.specs.Compile.{compile}
-use Rattle.notation.specs.Places.{namePlace, firstOver, imageUpTo, isHead, only}
+use Rattle.notation.specs.Places.{name_place, first_over, image_up_to, is_head, only}
 use Rattle.notation.specs.Judged.{refused}
 use Rattle.notation.specs.Said.{Says}
 use Rattle.naming.specs.Found.{found}
@@ -71,7 +71,7 @@ module _ {text out patterns ends : List ℕ} {switches start : ℕ} {made : Made
   module _ {was now : List ℕ} {base : ℕ} (w : Wrote was 0 now base headed) where
     -- Where each production ends in the image.
     sized : Sized grammar base ends m.productions
-    unfolding imageUpTo
+    unfolding image_up_to
     sized =
         record {
           many = omega (arith, m.ends_long, few_productions m.passes);
@@ -88,8 +88,8 @@ module _ {text out patterns ends : List ℕ} {switches start : ℕ} {made : Made
         }
 
     -- By what `over_image` finds.
-    module _ {f : Found} (o : (ps : List Production) (g : Grammar) → ReadsAs text ps → Sized g base ends ps → f ≡ found (namePlace text) (firstOver 16384 (imageUpTo g) 0 ps (only isHead (lexemes text)))) where
-      over_is : f ≡ found (namePlace text) (over_image text m.productions)
+    module _ {f : Found} (o : (ps : List Production) (g : Grammar) → ReadsAs text ps → Sized g base ends ps → f ≡ found (name_place text) (first_over 16384 (image_up_to g) 0 ps (only is_head (lexemes text)))) where
+      over_is : f ≡ found (name_place text) (over_image text m.productions)
       over_is = o m.productions grammar m.passes.reading sized
 
       whole_is : take base now ++ take made.length out ≡ encode grammar

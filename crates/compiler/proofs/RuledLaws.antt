@@ -23,7 +23,7 @@ use Rattle.notation.specs.Text.{ReadsAs}
 use Rattle.notation.specs.TextLaws.{derived, lexes_once}
 use Rattle.notation.specs.Naming.{per_leaf, everywhere, all, all_defined, once_named, one_pattern}
 use Rattle.notation.specs.Compile.{compile}
-use Rattle.notation.specs.Places.{token_place, namePlace, firstOver, imageUpTo, isHead, only}
+use Rattle.notation.specs.Places.{token_place, name_place, first_over, image_up_to, is_head, only}
 use Rattle.notation.specs.PlacesLaws.{is_none, defined_place, once_place, pattern_place, tables_place, conditions_place, texts_place, nodes_place}
 use Rattle.notation.specs.Judged.{Answer, good, refused, or_else, judged}
 use Rattle.notation.specs.Said.{Says, unread, read}
@@ -86,19 +86,19 @@ module _ (name token : Lexeme → ℕ) where
 
 -- The production with which the image is too long.
 abbrev pub over_image : List ℕ → List Production → Option Lexeme
-over_image text ps = firstOver 16384 (imageUpTo (compile ps)) 0 ps (only isHead (lexemes text))
+over_image text ps = first_over 16384 (image_up_to (compile ps)) 0 ps (only is_head (lexemes text))
 
 module _ (text : List ℕ) (ps : List Production) (room : ℕ) where
   -- What is left to be said where every rule before holds.
   abbrev pub imaged : Answer
   imaged =
-      or_else (over_image text ps) (λ l. refused 24 (namePlace text l))
+      or_else (over_image text ps) (λ l. refused 24 (name_place text l))
       (pick (leb (length (encode (compile ps))) room) (good (compile ps)) (refused 25 0))
 
   judged_ruled : judged text room ps (lexemes text) ≡ answered (ruled text ps) imaged
   unfolding judged ruled
   judged_ruled =
-      searched_answers (namePlace text) (token_place text) (lacks text ps) (twice text ps) (differs text ps) (ninth_table text ps) (ninth_switch text ps)
+      searched_answers (name_place text) (token_place text) (lacks text ps) (twice text ps) (differs text ps) (ninth_table text ps) (ninth_switch text ps)
       (long_text text ps) (over_nodes text ps) imaged
 
 -- ## What holds where the rules let pass
@@ -116,7 +116,7 @@ pub held : {text : List ℕ} {ps : List Production} → Passes text ps → Held 
 unfolding ruled
 held {text} {ps} p =
     let n =
-    searched_none (namePlace text) (token_place text) (lacks text ps) (twice text ps) (differs text ps) (ninth_table text ps) (ninth_switch text ps)
+    searched_none (name_place text) (token_place text) (lacks text ps) (twice text ps) (differs text ps) (ninth_table text ps) (ninth_switch text ps)
     (long_text text ps) (over_nodes text ps) p.passes in
     let ls = lexemes text in
     let P : Productions (bare ls) ps = reading p.reading in

@@ -7,7 +7,7 @@ use Rattle.notation.specs.Lexer.{lexemes}
 use Rattle.notation.specs.Text.{ReadsAs}
 use Rattle.notation.specs.Naming.{names, definitions}
 use Rattle.notation.specs.Uses.{head_of, def_of, switch_of}
-use Rattle.notation.specs.Places.{token_place, namePlace, firstWhere, first_name, undefined, again, ninth, long, firstOver, isHead, only, unlike}
+use Rattle.notation.specs.Places.{token_place, name_place, first_where, first_name, undefined, again, ninth, long, first_over, is_head, only, unlike}
 use Rattle.notation.specs.Judged.{refused}
 use Rattle.notation.specs.Said.{Says}
 use Rattle.naming.specs.Found.{found}
@@ -32,7 +32,7 @@ module _ (text : List ℕ) (ps : List Production) where
   -- What is looked for, in this order: a name that is not defined, a name that is defined twice, a def that is not alike to the first of its
   -- table, a ninth table, a ninth condition, a long quoted text, the production with which there are over 512 nodes.
   abbrev pub lacks : Option Lexeme
-  lacks = firstWhere (undefined (names ps) (map (λ d. d.table) (definitions ps))) (lexemes text)
+  lacks = first_where (undefined (names ps) (map (λ d. d.table) (definitions ps))) (lexemes text)
 
   abbrev pub twice : Option Lexeme
   twice = first_name head_of again [] (lexemes text)
@@ -47,24 +47,24 @@ module _ (text : List ℕ) (ps : List Production) where
   ninth_switch = first_name switch_of ninth [] (lexemes text)
 
   abbrev pub long_text : Option Lexeme
-  long_text = firstWhere long (lexemes text)
+  long_text = first_where long (lexemes text)
 
   abbrev pub over_nodes : Option Lexeme
-  over_nodes = firstOver 512 (λ n. n) 0 ps (only isHead (lexemes text))
+  over_nodes = first_over 512 (λ n. n) 0 ps (only is_head (lexemes text))
 
   -- 21 and 22, 23, and 24.
   abbrev pub by_names : Judgement
-  by_names = refusal 21 (found (namePlace text) lacks) then refusal 22 (found (namePlace text) twice)
+  by_names = refusal 21 (found (name_place text) lacks) then refusal 22 (found (name_place text) twice)
 
   abbrev pub by_patterns : Judgement
   by_patterns = refusal 23 (found (token_place text) differs)
 
   abbrev pub by_limits : Judgement
   by_limits =
-      refusal 24 (found (namePlace text) ninth_table)
-      then refusal 24 (found (namePlace text) ninth_switch)
+      refusal 24 (found (name_place text) ninth_table)
+      then refusal 24 (found (name_place text) ninth_switch)
       then refusal 24 (found (token_place text) long_text)
-      then refusal 24 (found (namePlace text) over_nodes)
+      then refusal 24 (found (name_place text) over_nodes)
 
   -- All rules, in their order.
   unfoldable pub ruled : Judgement

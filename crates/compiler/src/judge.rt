@@ -4,7 +4,7 @@ ghost use Rattle.notation.specs.Tree.{Production};
 ghost use Rattle.notation.specs.Text.{ReadsAs};
 ghost use Rattle.notation.specs.Lexer.{lexemes};
 ghost use Rattle.notation.specs.Uses.{head_of};
-ghost use Rattle.notation.specs.Places.{namePlace, first_name, ninth};
+ghost use Rattle.notation.specs.Places.{name_place, first_name, ninth};
 ghost use Rattle.naming.specs.Found.{found};
 ghost use Rattle.naming.specs.Gathered.{sort_of, gathered};
 ghost use Rattle.writer.specs.Named.{names_of};
@@ -48,7 +48,7 @@ fn earlier(first: Judgement, second: Judgement) -> Judgement
 // 21: the first name that is not defined. `heads` are the productions' names.
 fn lacking(text: &[u8], heads: &[u16]) -> Found
     requires { (length text.now ≤ 65535) × (names_of text.now heads.now ≡ gathered head_of [] (lexemes text.now)) }
-    ensures { (ps : List Production) → ReadsAs text.now ps → result ≡ found (namePlace text.now) (lacks text.now ps) }
+    ensures { (ps : List Production) → ReadsAs text.now ps → result ≡ found (name_place text.now) (lacks text.now ps) }
 {
     let mut tables = [0u16; 32768];
     let g = gather(text, &mut tables, 1);
@@ -72,7 +72,7 @@ fn names(text: &[u8]) -> Judgement
 // The first name of a sort with which there are nine.
 fn ninth(text: &[u8], sort: u8) -> Found
     requires { length text.now ≤ 65535 }
-    ensures { result ≡ found (namePlace text.now) (first_name (sort_of sort) ninth [] (lexemes text.now)) }
+    ensures { result ≡ found (name_place text.now) (first_name (sort_of sort) ninth [] (lexemes text.now)) }
 {
     let mut at = [0u16; 32768];
     let g = gather(text, &mut at, sort);

@@ -12,7 +12,7 @@ use Rattle.meaning.specs.Inside.{Part}
 use Rattle.parts.specs.declared.outcome.Outcome.{Outcome}
 use Rattle.parts.specs.declared.outcome.Outcome.TheVariants.{Passed, Failed, Refused}
 use Rattle.kinds.specs.declared.state.State.{State}
-use Rattle.parts.specs.Packed.{atOf, heldOf, steps_of, depth_of, opened_of}
+use Rattle.parts.specs.Packed.{at_of, held_of, steps_of, depth_of, opened_of}
 use Rattle.parts.specs.Slots.{symbols, Below}
 use Rattle.kinds.specs.Held.{env_of}
 use Rattle.machine.specs.Told.{Told, came, stopped, tells, rounding}
@@ -99,7 +99,7 @@ Numbered code bytes n = Node (image_of code bytes) n
 -- Asked of what an expression starts from.
 abbrev pub Starts : (code bytes input slots : List ℕ) (left from : ℕ) → Type 0
 Starts code bytes input slots left from =
-    Ready code (image_of code bytes) input slots left (atOf from) (heldOf from) (steps_of from) (depth_of from)
+    Ready code (image_of code bytes) input slots left (at_of from) (held_of from) (steps_of from) (depth_of from)
 
 -- What is to be said of a node, from a place and symbols;
 abbrev pub running : (code bytes input : List ℕ) (state : State) (left steps depth n : ℕ) → ℕ → Symbols → Told
@@ -109,9 +109,9 @@ running code bytes input state left steps depth n p σ =
 -- the same, from one number and the slots;
 abbrev pub saying : (code bytes input : List ℕ) (state : State) (slots : List ℕ) (left from n : ℕ) → Told
 saying code bytes input state slots left from n =
-    running code bytes input state left (steps_of from) (depth_of from) n (atOf from) (symbols (heldOf from) slots)
+    running code bytes input state left (steps_of from) (depth_of from) n (at_of from) (symbols (held_of from) slots)
 
 -- and of a Star's rounds, from one number and the slots.
 abbrev pub repeating : (code bytes input : List ℕ) (state : State) (slots : List ℕ) (left from a : ℕ) → Told
 repeating code bytes input state slots left from a =
-    starring code (image_of code bytes) input state left (steps_of from) (depth_of from) a (atOf from) (symbols (heldOf from) slots)
+    starring code (image_of code bytes) input state left (steps_of from) (depth_of from) a (at_of from) (symbols (held_of from) slots)

@@ -9,7 +9,7 @@ use Rattle.meaning.specs.Outcome.{pass}
 use Rattle.parts.specs.declared.outcome.Outcome.{Outcome}
 use Rattle.parts.specs.declared.outcome.Outcome.TheVariants.{Passed, Failed, Refused}
 use Rattle.kinds.specs.declared.state.State.{State}
-use Rattle.parts.specs.Packed.{atOf, heldOf, steps_of, depth_of, opened_of}
+use Rattle.parts.specs.Packed.{at_of, held_of, steps_of, depth_of, opened_of}
 use Rattle.parts.specs.Slots.{symbols, Below}
 use Rattle.kinds.specs.Held.{env_of}
 use Rattle.kinds.specs.Turned.{Bounds}
@@ -36,7 +36,7 @@ module _ (code image input before : List ℕ) (state : State) (left a at held s 
 
   -- The next starts from one number.
   pub rounds_from : {now : List ℕ} {next here stored charged reached : ℕ} → Has next here stored charged reached → Rounds now here stored charged reached
-      → Rounds now (atOf next) (heldOf next) (steps_of next) (depth_of next)
+      → Rounds now (at_of next) (held_of next) (steps_of next) (depth_of next)
   rounds_from h r = rw (sym h.place, sym h.names, sym h.spent, sym h.deepest) r
 
   module _ {now after : List ℕ} {here stored charged reached r : ℕ} (inv : Rounds now here stored charged reached)

@@ -5,7 +5,7 @@ use Rattle.std.proofs.Math.Path.{sym}
 use Rattle.std.proofs.Math.ListN.{length-take}
 use Rattle.format.specs.Reading.{pick}
 use Rattle.parts.specs.declared.outcome.Outcome.TheVariants.{Passed, Failed}
-use Rattle.parts.specs.Packed.{atOf, heldOf, steps_of, depth_of, opened_of}
+use Rattle.parts.specs.Packed.{at_of, held_of, steps_of, depth_of, opened_of}
 use Rattle.parts.specs.PackedLaws.{has_parts}
 use Rattle.kinds.specs.Turned.{given_of}
 use Rattle.machine.specs.Told.{Told}
@@ -13,8 +13,8 @@ use Rattle.machine.specs.Ready.{image_of, Ready, Starts, Done}
 
 -- A number has these parts.
 pub record Has (from at held steps depth : ℕ) : Type 0 where
-  pub place : at ≡ atOf from
-  pub names : held ≡ heldOf from
+  pub place : at ≡ at_of from
+  pub names : held ≡ held_of from
   pub spent : steps ≡ steps_of from
   pub deepest : depth ≡ depth_of from
 
@@ -29,12 +29,12 @@ module _ {from at held steps depth : ℕ} (h : Has from at held steps depth) whe
 
   -- What is said of the one is said of the other.
   module _ (F : (at held steps depth : ℕ) → Told) {before after : List ℕ} {r : ℕ} where
-    pub as_parts : Done (heldOf from) before after r (F (atOf from) (heldOf from) (steps_of from) (depth_of from))
+    pub as_parts : Done (held_of from) before after r (F (at_of from) (held_of from) (steps_of from) (depth_of from))
         → Done held before after r (F at held steps depth)
     as_parts d = rw (h.place, h.names, h.spent, h.deepest) d
 
     pub as_one : Done held before after r (F at held steps depth)
-        → Done (heldOf from) before after r (F (atOf from) (heldOf from) (steps_of from) (depth_of from))
+        → Done (held_of from) before after r (F (at_of from) (held_of from) (steps_of from) (depth_of from))
     as_one d = rw (sym h.place, sym h.names, sym h.spent, sym h.deepest) d
 
 -- A passed outcome, as the number that is started from next.
@@ -47,7 +47,7 @@ has_passed r e = has_passed_as r e refl refl
 
 -- One byte further, in its parts.
 pub onward_given : (now : ℕ) {at held steps depth : ℕ} (ok : Bool) (q : ℕ) → Has now at held steps depth
-    → opened_of q ≡ pick ok (Passed (atOf now + 1) (heldOf now) (steps_of now) (depth_of now)) (Failed (steps_of now) (depth_of now))
+    → opened_of q ≡ pick ok (Passed (at_of now + 1) (held_of now) (steps_of now) (depth_of now)) (Failed (steps_of now) (depth_of now))
     → opened_of q ≡ given_of ok (at + 1) held steps depth
 onward_given now ok q h e = rw (h.place, h.names, h.spent, h.deepest) e
 

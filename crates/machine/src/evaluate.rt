@@ -5,7 +5,7 @@
 // `entered` charges the tally, and nothing else does. `slots` is the run's own store, of which the caller's slots get what it holds at the end. Nothing
 // below the symbols held on entering is ever written, so what fails needs no undoing.
 ghost use Rattle.std.specs.Prelude.{◌+◌, ◌<◌, ◌≤◌};
-ghost use Rattle.parts.specs.Packed.{atOf, heldOf, steps_of};
+ghost use Rattle.parts.specs.Packed.{at_of, held_of, steps_of};
 ghost use Rattle.parts.specs.Slots.{symbols};
 ghost use Rattle.machine.specs.Told.{and_then, or_else};
 ghost use Rattle.machine.specs.Ready.{step_limit, depth_limit, Starts, Numbered, Done, running, saying, repeating};
@@ -35,7 +35,7 @@ pub fn eval(
     from: u64,
 ) -> u64
     requires { Starts code.now image.now input.now slots.old left from × Numbered code.now image.now node }
-    ensures { Done (heldOf from) slots.old slots.new result
+    ensures { Done (held_of from) slots.old slots.new result
         (saying code.now image.now input.now state slots.old left from node) }
 {
     let spent = steps_of(from);
@@ -73,7 +73,7 @@ pub fn inside(
     from: u64,
 ) -> u64
     requires { Starts code.now image.now input.now slots.old left from × Numbered code.now image.now node × (steps_of from < step_limit code.now) × (1 ≤ left) }
-    ensures { Done (heldOf from) slots.old slots.new result
+    ensures { Done (held_of from) slots.old slots.new result
         (saying code.now image.now input.now state slots.old left from node) }
 {
     let below = left - 1;
@@ -177,7 +177,7 @@ fn sequence(
     from: u64,
 ) -> u64
     requires { Starts code.now image.now input.now slots.old left from × Numbered code.now image.now a × Numbered code.now image.now b }
-    ensures { Done (heldOf from) slots.old slots.new result
+    ensures { Done (held_of from) slots.old slots.new result
         (and_then (saying code.now image.now input.now state slots.old left from a)
         (λ q τ s d. running code.now image.now input.now state left s d b q τ)) }
 {
@@ -209,9 +209,9 @@ fn choice(
     from: u64,
 ) -> u64
     requires { Starts code.now image.now input.now slots.old left from × Numbered code.now image.now a × Numbered code.now image.now b }
-    ensures { Done (heldOf from) slots.old slots.new result
+    ensures { Done (held_of from) slots.old slots.new result
         (or_else (saying code.now image.now input.now state slots.old left from a)
-        (λ s d. running code.now image.now input.now state left s d b (atOf from) (symbols (heldOf from) slots.old))) }
+        (λ s d. running code.now image.now input.now state left s d b (at_of from) (symbols (held_of from) slots.old))) }
 {
     let r = eval(code, image, input, slots, state, left, a, from);
     let first = opened(r);
@@ -239,7 +239,7 @@ fn star(
     from: u64,
 ) -> u64
     requires { Starts code.now image.now input.now slots.old left from × Numbered code.now image.now a × (left + 1 ≤ depth_limit code.now) }
-    ensures { Done (heldOf from) slots.old slots.new result
+    ensures { Done (held_of from) slots.old slots.new result
         (repeating code.now image.now input.now state slots.old left from a) }
 {
     let mut here = from;

@@ -16,7 +16,7 @@ use Rattle.notation.specs.Counts.{weight_of, weight_in}
 use Rattle.notation.specs.CountLaws.{weighs}
 use Rattle.notation.specs.Uses.{per_token, heads_in, head_of}
 use Rattle.notation.specs.UsesLaws.{no_heads}
-use Rattle.notation.specs.Places.{isHead, only}
+use Rattle.notation.specs.Places.{is_head, only}
 
 -- A production that has ended: what is kept of its head, and the nodes up to its end.
 pub record Ended (A : Type 0) : Type 0 where
@@ -27,15 +27,15 @@ pub record Ended (A : Type 0) : Type 0 where
 abbrev pub ends : {A : Type 0} → A → (nodes weight : ℕ) → List (Ended A)
 ends x nodes weight = pick (eqb weight 0) [] (record { head = x; nodes = nodes + (weight - 1) } ∷ [])
 
-not_head : (t : Token) → head_of t ≡ [] → isHead t ≡ false
-not_head t e = rw (e, isHead)
+not_head : (t : Token) → head_of t ≡ [] → is_head t ≡ false
+not_head t e = rw (e, is_head)
 
 module _ {A : Type 0} (keep : Lexeme → A) where
   -- From the open production on: a head ends it and opens the next, and each other token adds its weight.
   unfoldable pub endings : A → (nodes weight : ℕ) → List Lexeme → List (Ended A)
   endings x nodes weight [] = ends x nodes weight
   endings x nodes weight (l ∷ ls) =
-      pick (isHead l.token) (ends x nodes weight ++ endings (keep l) (nodes + (weight - 1)) 0 ls)
+      pick (is_head l.token) (ends x nodes weight ++ endings (keep l) (nodes + (weight - 1)) 0 ls)
       (endings x nodes (weight + weight_of l.token) ls)
 
   -- Productions with their heads.
@@ -51,7 +51,7 @@ module _ {A : Type 0} (keep : Lexeme → A) where
   record Behind (ts us : List Token) (ls : List Lexeme) : Type 0 where
     rest : List Lexeme
     is : bare rest ≡ us
-    heads : only isHead ls ≡ only isHead rest
+    heads : only is_head ls ≡ only is_head rest
     on : (x : A) (nodes weight : ℕ) → endings x nodes weight ls ≡ endings x nodes (weight + weight_in ts) rest
 
   behind : (ts us : List Token) (ls : List Lexeme) → bare ls ≡ ts ++ us → heads_in ts ≡ [] → Behind ts us ls
@@ -75,7 +75,7 @@ module _ {A : Type 0} (keep : Lexeme → A) where
       first : l.token ≡ t
       first = cc
 
-      other : isHead l.token ≡ false
+      other : is_head l.token ≡ false
       other = not_head l.token (ap head_of first ∙ none.0)
 
       go : Behind ts us ls → Behind (t ∷ ts) us (l ∷ ls)
@@ -99,19 +99,19 @@ module _ {A : Type 0} (keep : Lexeme → A) where
 
   pub endings_are :
       {ts : List Token} {ps : List Production} → Productions ts ps → (ls : List Lexeme) → bare ls ≡ ts → (x : A) (k w : ℕ)
-      → endings x k w ls ≡ ends x k w ++ headed (k + (w - 1)) ps (only isHead ls)
+      → endings x k w ls ≡ ends x k w ++ headed (k + (w - 1)) ps (only is_head ls)
   unfolding endings headed only
   endings_are (last {n = n} {ts = ts} {a = a} D) [] e x k w = no_way (cc)
   endings_are (last {n = n} {ts = ts} {a = a} D) (l ∷ ls) e x k w = go (body D [] ls (rw append-nil (cc)))
     where
-      first : isHead l.token ≡ true
-      first = let z : l.token ≡ head n = cc in ap isHead z
+      first : is_head l.token ≡ true
+      first = let z : l.token ≡ head n = cc in ap is_head z
 
       nothing : (ls : List Lexeme) → bare ls ≡ [] → ls ≡ []
       nothing [] e = refl
       nothing (l ∷ ls) e = no_way (cc)
 
-      go : Behind ts [] ls → endings x k w (l ∷ ls) ≡ ends x k w ++ headed (k + (w - 1)) (record { name = n; body = a } ∷ []) (only isHead (l ∷ ls))
+      go : Behind ts [] ls → endings x k w (l ∷ ls) ≡ ends x k w ++ headed (k + (w - 1)) (record { name = n; body = a } ∷ []) (only is_head (l ∷ ls))
       go B =
           let z = nothing B.rest B.is in
           rw first
@@ -120,13 +120,13 @@ module _ {A : Type 0} (keep : Lexeme → A) where
   endings_are (more {n = n} {ts = ts} {us = us} {a = a} {ps = ps} D P) (l ∷ ls) e x k w =
       go (body D us ls (cc)) (λ ls e x k w. endings_are P ls e x k w)
     where
-      first : isHead l.token ≡ true
-      first = let z : l.token ≡ head n = cc in ap isHead z
+      first : is_head l.token ≡ true
+      first = let z : l.token ≡ head n = cc in ap is_head z
 
       go :
           Behind ts us ls
-          → ((ls : List Lexeme) → bare ls ≡ us → (x : A) (k w : ℕ) → endings x k w ls ≡ ends x k w ++ headed (k + (w - 1)) ps (only isHead ls))
-          → endings x k w (l ∷ ls) ≡ ends x k w ++ headed (k + (w - 1)) (record { name = n; body = a } ∷ ps) (only isHead (l ∷ ls))
+          → ((ls : List Lexeme) → bare ls ≡ us → (x : A) (k w : ℕ) → endings x k w ls ≡ ends x k w ++ headed (k + (w - 1)) ps (only is_head ls))
+          → endings x k w (l ∷ ls) ≡ ends x k w ++ headed (k + (w - 1)) (record { name = n; body = a } ∷ ps) (only is_head (l ∷ ls))
       go B ih =
           let j = k + (w - 1) in
           let i = 0 + weight_in ts in

@@ -13,7 +13,7 @@ use Rattle.notation.specs.Token.{bad, Lexeme}
 use Rattle.notation.specs.Naming.{member}
 use Rattle.notation.specs.Compile.{place, Entry}
 use Rattle.notation.specs.Counts.{weight_of}
-use Rattle.notation.specs.Places.{isHead}
+use Rattle.notation.specs.Places.{is_head}
 use Rattle.naming.proofs.HeadLaws.{name_of}
 use Rattle.naming.proofs.WeightLaws.{Light, light_token, light_head}
 use Rattle.naming.proofs.EndLaws.{Ended, ends, endings}
@@ -97,7 +97,7 @@ module _ (ns : List Name) where
 
     -- The end that is next is a good one.
     module _ {name : Name} {nodes weight : ℕ} {numbers : List ℕ} where
-      pub filling_open : {l : Lexeme} {ls : List Lexeme} → isHead l.token ≡ true → Filling name nodes weight numbers (l ∷ ls) → AllGood (ends name nodes weight)
+      pub filling_open : {l : Lexeme} {ls : List Lexeme} → is_head l.token ≡ true → Filling name nodes weight numbers (l ∷ ls) → AllGood (ends name nodes weight)
       unfolding endings
       filling_open {l} {ls} e F =
           good_front (ends name nodes weight) (endings name_of (name_of l) (nodes + (weight - 1)) 0 ls) (rw e at F.good)
@@ -107,7 +107,7 @@ module _ (ns : List Name) where
       filling_last F = F.good
 
     module _ {name : Name} {nodes weight : ℕ} {numbers : List ℕ} {l : Lexeme} {ls : List Lexeme} (F : Filling name nodes weight numbers (l ∷ ls)) where
-      pub filling_token : isHead l.token ≡ false → {w : ℕ} → w ≡ weight_of l.token → Filling name nodes (weight + w) numbers ls
+      pub filling_token : is_head l.token ≡ false → {w : ℕ} → w ≡ weight_of l.token → Filling name nodes (weight + w) numbers ls
       unfolding endings
       filling_token e h =
           rw h
@@ -120,7 +120,7 @@ module _ (ns : List Name) where
           })
 
       pub filling_head :
-          isHead l.token ≡ true → {k : ℕ} → k ≡ nodes + (weight - 1) → {now : List ℕ} → now ≡ settled name nodes weight numbers → {m : Name} → name_of l ≡ m
+          is_head l.token ≡ true → {k : ℕ} → k ≡ nodes + (weight - 1) → {now : List ℕ} → now ≡ settled name nodes weight numbers → {m : Name} → name_of l ≡ m
           → Filling m k 0 now ls
       unfolding endings
       filling_head e h n q =
@@ -139,7 +139,7 @@ module _ (ns : List Name) where
         → Filling name nodes weight numbers []
     filling_bad {name} {nodes} {weight} {numbers} l e F =
         let z : weight + 0 ≡ weight = omega arith in
-        rw z at (filling_token F (ap isHead e) {w = 0} (sym (ap weight_of e)))
+        rw z at (filling_token F (ap is_head e) {w = 0} (sym (ap weight_of e)))
 
     -- In the end all are filled in, and all nodes are counted.
     module _ {name : Name} {nodes weight : ℕ} {numbers : List ℕ} (F : Filling name nodes weight numbers []) where

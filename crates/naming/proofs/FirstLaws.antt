@@ -17,10 +17,10 @@ use Rattle.notation.specs.SymbolsLaws.{same_refl}
 use Rattle.notation.specs.Naming.{names, member}
 use Rattle.notation.specs.Compile.{entry, roots, first}
 use Rattle.notation.specs.CompileLaws.{member-here}
-use Rattle.notation.specs.Places.{isHead}
+use Rattle.notation.specs.Places.{is_head}
 use Rattle.lexer.specs.Meant.{ahead}
 use Rattle.lexer.specs.declared.token.Token as lexer
-use Rattle.naming.proofs.HeadLaws.{is_head, no_head}
+use Rattle.naming.proofs.HeadLaws.{is_head_lem, no_head}
 
 -- A name is the first production's.
 pub record First (n : Name) (ps : List Production) : Type 0 where
@@ -36,9 +36,9 @@ not_empty : {ts : List Token} {ps : List Production} → Productions ts ps → t
 not_empty (last D) e = no_way (cc)
 not_empty (more D P) e = no_way (cc)
 
-head_front : {ts : List Token} {ps : List Production} {t : Token} {rest : List Token} → Productions ts ps → ts ≡ t ∷ rest → isHead t ≡ true
-head_front {t = t} (last {n = n} D) e = let k : t ≡ head n = cc in ap isHead k
-head_front {t = t} (more {n = n} D P) e = let k : t ≡ head n = cc in ap isHead k
+head_front : {ts : List Token} {ps : List Production} {t : Token} {rest : List Token} → Productions ts ps → ts ≡ t ∷ rest → is_head t ≡ true
+head_front {t = t} (last {n = n} D) e = let k : t ≡ head n = cc in ap is_head k
+head_front {t = t} (more {n = n} D P) e = let k : t ≡ head n = cc in ap is_head k
 
 first_name_lem : {ts : List Token} {ps : List Production} {n : Name} {rest : List Token} → Productions ts ps → ts ≡ head n ∷ rest → First n ps
 first_name_lem {n = n} (last {n = m} {a = a} D) e =
@@ -54,6 +54,6 @@ first_of {ts} {ps} P text t e = go (eqb t.kind 0) (eqb t.kind 1) refl refl
     go : (a b : Bool) → eqb t.kind 0 ≡ a → eqb t.kind 1 ≡ b → First (name_at text t.name) ps
     go true b p q = absurd (not_empty P (sym (rw p at e)))
     go false true p q =
-        let z = rw p at e in first_name_lem P (sym z ∙ ap (λ x. x ∷ bare (pick (eqb t.kind 11) [] (lexemes (drop t.next text)))) (is_head text t (eqb-true t.kind 1 q)))
+        let z = rw p at e in first_name_lem P (sym z ∙ ap (λ x. x ∷ bare (pick (eqb t.kind 11) [] (lexemes (drop t.next text)))) (is_head_lem text t (eqb-true t.kind 1 q)))
     go false false p q =
         let z : true ≡ false = sym (head_front P (sym (rw p at e))) ∙ no_head text t (eqb-false t.kind 1 q) in no_way (cc)

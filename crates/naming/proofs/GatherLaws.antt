@@ -13,7 +13,7 @@ use Rattle.notation.specs.Token.{Token, bad, Lexeme}
 use Rattle.notation.specs.At.{name_at}
 use Rattle.notation.specs.Lexer.{lexemes}
 use Rattle.notation.specs.Compile.{insert}
-use Rattle.notation.specs.Places.{first_name, again, ninth, namePlace}
+use Rattle.notation.specs.Places.{first_name, again, ninth, name_place}
 use Rattle.index.specs.Listed.{names_at, Ascending, Keeps}
 use Rattle.notation.specs.OrderLaws.{insert_ascending}
 use Rattle.index.specs.PlaceLaws.{names_length}
@@ -83,7 +83,7 @@ module _ (f : Token → List Name) (test : List Name → Name → Bool) (before 
 module _ (f : Token → List Name) (text : List ℕ) (whole : List Lexeme) where
   -- The first name that a test does not let pass.
   abbrev First : (List Name → Name → Bool) → Found → List Name → List Lexeme → Type 0
-  First test a before ls = or_else a (found (namePlace text) (first_name f test before ls)) ≡ found (namePlace text) (first_name f test [] whole)
+  First test a before ls = or_else a (found (name_place text) (first_name f test before ls)) ≡ found (name_place text) (first_name f test [] whole)
 
   pub record Gathering (at : List ℕ) (g : Gathered) (ls : List Lexeme) : Type 0 where
     pub within : g.count ≤ length at
@@ -112,7 +112,7 @@ module _ (f : Token → List Name) (text : List ℕ) (whole : List Lexeme) where
       }
 
   pub gathering_on :
-      {at now : List ℕ} {g r : Gathered} {l : Lexeme} {ls : List Lexeme} {p : ℕ} → namePlace text l ≡ p → f l.token ≡ name_at text p ∷ []
+      {at now : List ℕ} {g r : Gathered} {l : Lexeme} {ls : List Lexeme} {p : ℕ} → name_place text l ≡ p → f l.token ≡ name_at text p ∷ []
       → Adds text at g p now r → Gathering at g (l ∷ ls) → Gathering now r ls
   unfolding gathered inserted
   gathering_on {at} {now} {g} {r} {l} {ls} {p} h e A G =
@@ -121,7 +121,7 @@ module _ (f : Token → List Name) (text : List ℕ) (whole : List Lexeme) where
       let first : (test : List Name → Name → Bool) (a b : Found) → b ≡ or_else a (here_if (test ns n) p) → First test a ns (l ∷ ls)
       → First test b (names_at text now r.count) ls = λ test a b q F.
       rw (A.listed, q)
-      (found_here (namePlace text) a (test ns n) p l (first_name f test (insert n ns) ls) h ∙ rw (name_one f test ns l ls n e) at F)
+      (found_here (name_place text) a (test ns n) p l (first_name f test (insert n ns) ls) h ∙ rw (name_one f test ns l ls n e) at F)
       in
       record {
         within = A.within;

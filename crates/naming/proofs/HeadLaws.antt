@@ -13,7 +13,7 @@ use Rattle.notation.specs.At.{name_at}
 use Rattle.notation.specs.Naming.{names}
 use Rattle.notation.specs.Uses.{per_token, heads_in, head_of}
 use Rattle.notation.specs.UsesLaws.{heads_are}
-use Rattle.notation.specs.Places.{isHead, only}
+use Rattle.notation.specs.Places.{is_head, only}
 use Rattle.lexer.specs.Meant.{meant, placed}
 use Rattle.lexer.specs.declared.token.Token as lexer
 use Rattle.naming.proofs.PickLaws.{pick_with}
@@ -23,21 +23,21 @@ abbrev pub name_of : Lexeme → Name
 name_of l = elim (head_of l.token) [ [] ↦ [] | n ∷ more ↦ n ]
 
 module _ (text : List ℕ) (t : lexer.Token) where
-  pub is_head : t.kind ≡ 1 → meant text t ≡ head (name_at text t.name)
+  pub is_head_lem : t.kind ≡ 1 → meant text t ≡ head (name_at text t.name)
   unfolding meant
-  is_head e = rw e
+  is_head_lem e = rw e
 
-  pub head_is : t.kind ≡ 1 → isHead (meant text t) ≡ true
-  head_is e = rw (is_head e)
+  pub head_is : t.kind ≡ 1 → is_head (meant text t) ≡ true
+  head_is e = rw (is_head_lem e)
 
   pub head_name : t.kind ≡ 1 → name_of (placed text t) ≡ name_at text t.name
-  head_name e = rw (is_head e)
+  head_name e = rw (is_head_lem e)
 
-  pub no_head : (t.kind ≡ 1 → ⊥) → isHead (meant text t) ≡ false
+  pub no_head : (t.kind ≡ 1 → ⊥) → is_head (meant text t) ≡ false
   unfolding meant
   no_head f =
       let k = t.kind in
-      let P : Token → Type 0 = λ x. isHead x ≡ false in
+      let P : Token → Type 0 = λ x. is_head x ≡ false in
       rw (ne_eqb k 1 f)
       (pick_with P (eqb k 2) (λ _. refl) λ _.
       pick_with P (eqb k 3) (λ _. refl) λ _.
@@ -52,7 +52,7 @@ module _ (h : List ℕ) where
   abbrev at : Token → Lexeme
   at t = record { here = h; token = t }
 
-  heads_on : (t : Token) (ls : List Lexeme) → map name_of (only isHead ls) ≡ heads_in (bare ls) → map name_of (only isHead (at t ∷ ls)) ≡ heads_in (t ∷ bare ls)
+  heads_on : (t : Token) (ls : List Lexeme) → map name_of (only is_head ls) ≡ heads_in (bare ls) → map name_of (only is_head (at t ∷ ls)) ≡ heads_in (t ∷ bare ls)
   unfolding only per_token
   heads_on (head n) ls e = ap (λ r. n ∷ r) e
   heads_on (leaf l) ls e = e
@@ -65,14 +65,14 @@ module _ (h : List ℕ) where
   heads_on (after s) ls e = e
   heads_on bad ls e = e
 
-heads_named : (ls : List Lexeme) → map name_of (only isHead ls) ≡ heads_in (bare ls)
+heads_named : (ls : List Lexeme) → map name_of (only is_head ls) ≡ heads_in (bare ls)
 unfolding only per_token
 heads_named [] = refl
 heads_named (l ∷ ls) = heads_on l.here l.token ls (heads_named ls)
 
-pub named_heads : (ls : List Lexeme) {ps : List Production} → Productions (bare ls) ps → map name_of (only isHead ls) ≡ names ps
+pub named_heads : (ls : List Lexeme) {ps : List Production} → Productions (bare ls) ps → map name_of (only is_head ls) ≡ names ps
 named_heads ls P = heads_named ls ∙ heads_are P
 
-pub heads_length : (ls : List Lexeme) {ps : List Production} → Productions (bare ls) ps → length (only isHead ls) ≡ length ps
+pub heads_length : (ls : List Lexeme) {ps : List Production} → Productions (bare ls) ps → length (only is_head ls) ≡ length ps
 heads_length ls {ps} P =
-    sym (length-map (only isHead ls) name_of) ∙ ap length (named_heads ls P) ∙ length-map ps (λ p. p.name)
+    sym (length-map (only is_head ls) name_of) ∙ ap length (named_heads ls P) ∙ length-map ps (λ p. p.name)

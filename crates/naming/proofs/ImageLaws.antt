@@ -16,7 +16,7 @@ use Rattle.notation.specs.Token.{bad, Lexeme}
 use Rattle.notation.specs.Lexer.{lexemes}
 use Rattle.notation.specs.Text.{ReadsAs}
 use Rattle.notation.specs.Compile.{count}
-use Rattle.notation.specs.Places.{firstOver, imageUpTo, isHead, only}
+use Rattle.notation.specs.Places.{first_over, image_up_to, is_head, only}
 use Rattle.naming.specs.Found.{found}
 use Rattle.naming.specs.Sized.{nodes_of, Sized}
 use Rattle.naming.specs.GatheredLaws.{reading}
@@ -34,10 +34,10 @@ first_above limit base (e ∷ ends) (h ∷ heads) = pick (ltb limit (base + e)) 
 
 module _ (limit base : ℕ) (ends : List ℕ) (place : Lexeme → ℕ) (whole : List Lexeme) where
   abbrev result : Found
-  result = found place (first_above limit base ends (only isHead whole))
+  result = found place (first_above limit base ends (only is_head whole))
 
   pub record Ending (i : ℕ) (ls : List Lexeme) : Type 0 where
-    pub still : found place (first_above limit base (drop i ends) (only isHead ls)) ≡ result
+    pub still : found place (first_above limit base (drop i ends) (only is_head ls)) ≡ result
 
   -- No head is left; or no end.
   pub ending_over : {i : ℕ} → Ending i [] → Nowhere ≡ result
@@ -53,12 +53,12 @@ module _ (limit base : ℕ) (ends : List ℕ) (place : Lexeme → ℕ) (whole : 
   ending_out h E = rw (drop_of_length-le ends h) at E.still
 
   module _ {i : ℕ} {l : Lexeme} {ls : List Lexeme} (E : Ending i (l ∷ ls)) where
-    pub ending_token : isHead l.token ≡ false → Ending i ls
+    pub ending_token : is_head l.token ≡ false → Ending i ls
     unfolding only
     ending_token e = record { still = rw e at E.still }
 
-    module _ (e : isHead l.token ≡ true) (h : i < length ends) where
-      here : found place (pick (ltb limit (base + get_or ends i 0)) (some l) (first_above limit base (drop (i + 1) ends) (only isHead ls))) ≡ result
+    module _ (e : is_head l.token ≡ true) (h : i < length ends) where
+      here : found place (pick (ltb limit (base + get_or ends i 0)) (some l) (first_above limit base (drop (i + 1) ends) (only is_head ls))) ≡ result
       unfolding first_above only
       here = rw add-one (rw (e, drop-cons ends i 0 h) at E.still)
 
@@ -69,15 +69,15 @@ module _ (limit base : ℕ) (ends : List ℕ) (place : Lexeme → ℕ) (whole : 
       ending_here f q = ap At (sym q) ∙ rw f at here
 
   pub ending_bad : {i : ℕ} (l : Lexeme) → l.token ≡ bad → Ending i (l ∷ []) → Ending i []
-  ending_bad l e E = ending_token E (ap isHead e)
+  ending_bad l e E = ending_token E (ap is_head e)
 
 -- ## It is what the rules say, where the ends are those of the image
 
 agrees :
     (limit base : ℕ) (size : ℕ → ℕ) (k : ℕ) (ps : List Production) (ends : List ℕ) (heads : List Lexeme) → length heads ≤ length ps
     → length ps ≤ length ends → ((i : ℕ) → i < length ps → base + get_or ends i 0 ≡ size (k + nodes_of (take (suc i) ps)))
-    → first_above limit base ends heads ≡ firstOver limit size k ps heads
-unfolding first_above firstOver
+    → first_above limit base ends heads ≡ first_over limit size k ps heads
+unfolding first_above first_over
 agrees limit base size k [] [] heads h m f = refl
 agrees limit base size k [] (e ∷ ends) [] h m f = refl
 agrees limit base size k [] (e ∷ ends) (l ∷ heads) h m f = absurd (omega arith)
@@ -91,7 +91,7 @@ agrees limit base size k (p ∷ ps) (e ∷ ends) (l ∷ heads) h m f =
 
 pub above_is :
     {text : List ℕ} {ps : List Production} → ReadsAs text ps → (g : Grammar) (base : ℕ) (ends : List ℕ) → Sized g base ends ps → (limit : ℕ)
-    → first_above limit base ends (only isHead (lexemes text)) ≡ firstOver limit (imageUpTo g) 0 ps (only isHead (lexemes text))
+    → first_above limit base ends (only is_head (lexemes text)) ≡ first_over limit (image_up_to g) 0 ps (only is_head (lexemes text))
 above_is {text} {ps} r g base ends S limit =
-    agrees limit base (imageUpTo g) 0 ps ends (only isHead (lexemes text)) (omega (arith, heads_length (lexemes text) (reading r))) S.many
-    (λ i h. S.each i h ∙ ap (imageUpTo g) (omega arith))
+    agrees limit base (image_up_to g) 0 ps ends (only is_head (lexemes text)) (omega (arith, heads_length (lexemes text) (reading r))) S.many
+    (λ i h. S.each i h ∙ ap (image_up_to g) (omega arith))

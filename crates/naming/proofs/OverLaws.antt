@@ -15,7 +15,7 @@ use Rattle.notation.specs.Lexer.{lexemes}
 use Rattle.notation.specs.Text.{ReadsAs}
 use Rattle.notation.specs.Compile.{count}
 use Rattle.notation.specs.Counts.{weight_of}
-use Rattle.notation.specs.Places.{firstOver, isHead, only}
+use Rattle.notation.specs.Places.{first_over, is_head, only}
 use Rattle.naming.specs.Found.{found, here_if}
 use Rattle.naming.specs.GatheredLaws.{reading}
 use Rattle.naming.specs.declared.found.Found.{Found}
@@ -33,14 +33,14 @@ found_pick place true l later = refl
 found_pick place false l later = refl
 
 module _ (limit : ℕ) (place : Lexeme → ℕ) where
-  headed_past : (k : ℕ) (ps : List Production) (hs : List Lexeme) → first_past limit (headed place k ps hs) ≡ found place (firstOver limit (λ n. n) k ps hs)
-  unfolding first_past headed firstOver
+  headed_past : (k : ℕ) (ps : List Production) (hs : List Lexeme) → first_past limit (headed place k ps hs) ≡ found place (first_over limit (λ n. n) k ps hs)
+  unfolding first_past headed first_over
   headed_past k [] hs = refl
   headed_past k (p ∷ ps) [] = refl
   headed_past k (p ∷ ps) (h ∷ hs) =
       let later = k + count p.body in
       ap (λ r. pick (ltb limit later) (At (place h)) r) (headed_past later ps hs)
-      ∙ sym (found_pick place (ltb limit later) h (firstOver limit (λ n. n) later ps hs))
+      ∙ sym (found_pick place (ltb limit later) h (first_over limit (λ n. n) later ps hs))
 
   -- What is open ends: where the nodes before it are within the limit, it is past the limit or nothing is open.
   ends_past :
@@ -70,13 +70,13 @@ module _ (limit : ℕ) (place : Lexeme → ℕ) where
     weighing_end {name} {nodes} {weight} W = sym (rw append-nil at (ends_past name nodes weight [] W.low)) ∙ W.within
 
     module _ {name nodes weight : ℕ} {l : Lexeme} {ls : List Lexeme} (W : Weighing name nodes weight (l ∷ ls)) where
-      pub weighing_token : isHead l.token ≡ false → {w : ℕ} → w ≡ weight_of l.token → Weighing name nodes (weight + w) ls
+      pub weighing_token : is_head l.token ≡ false → {w : ℕ} → w ≡ weight_of l.token → Weighing name nodes (weight + w) ls
       unfolding endings
       weighing_token e h =
           rw h (record { low = W.low; light = light_token nodes weight l ls W.light; within = rw e at W.within })
 
       -- A head ends what is open: with it the nodes are k.
-      module _ (e : isHead l.token ≡ true) {k : ℕ} (h : k ≡ nodes + (weight - 1)) where
+      module _ (e : is_head l.token ≡ true) {k : ℕ} (h : k ≡ nodes + (weight - 1)) where
         closes : pick (ltb limit k) (At name) (first_past limit (endings place (place l) k 0 ls)) ≡ result
         unfolding endings
         closes = rw h (sym (ends_past name nodes weight (endings place (place l) (nodes + (weight - 1)) 0 ls) W.low) ∙ rw e at W.within)
@@ -95,7 +95,7 @@ module _ (limit : ℕ) (place : Lexeme → ℕ) where
     pub weighing_bad : {name nodes weight : ℕ} (l : Lexeme) → l.token ≡ bad → Weighing name nodes weight (l ∷ []) → Weighing name nodes weight []
     weighing_bad {name} {nodes} {weight} l e W =
         let z : weight + 0 ≡ weight = omega arith in
-        rw z at (weighing_token W (ap isHead e) {w = 0} (sym (ap weight_of e)))
+        rw z at (weighing_token W (ap is_head e) {w = 0} (sym (ap weight_of e)))
 
 pub weighing_all :
     (limit : ℕ) (text : List ℕ) (place : Lexeme → ℕ) → length text ≤ 65535 → Weighing limit place (lexemes text) 0 0 0 (lexemes text)
@@ -104,6 +104,6 @@ weighing_all limit text place h = record { low = omega arith; light = light_all 
 -- Of a text that reads as productions it is what the rules say.
 pub past_is :
     {text : List ℕ} {ps : List Production} → ReadsAs text ps → (limit : ℕ) (place : Lexeme → ℕ)
-    → first_past limit (endings place 0 0 0 (lexemes text)) ≡ found place (firstOver limit (λ n. n) 0 ps (only isHead (lexemes text)))
+    → first_past limit (endings place 0 0 0 (lexemes text)) ≡ found place (first_over limit (λ n. n) 0 ps (only is_head (lexemes text)))
 past_is {text} {ps} r limit place =
-    ap (first_past limit) (endings_are place (reading r) (lexemes text) refl 0 0 0) ∙ headed_past limit place 0 ps (only isHead (lexemes text))
+    ap (first_past limit) (endings_are place (reading r) (lexemes text) refl 0 0 0) ∙ headed_past limit place 0 ps (only is_head (lexemes text))

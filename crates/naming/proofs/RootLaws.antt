@@ -17,7 +17,7 @@ use Rattle.notation.specs.Naming.{names, member, distinct}
 use Rattle.notation.specs.Compile.{place, Entry, entry, count, root, roots, compile}
 use Rattle.notation.specs.CompileLaws.{member-here, member_later}
 use Rattle.notation.specs.FitLaws.{some_nodes}
-use Rattle.notation.specs.Places.{isHead, only}
+use Rattle.notation.specs.Places.{is_head, only}
 use Rattle.lexer.specs.Meant.{Lexed}
 use Rattle.lexer.specs.declared.token.Token as lexer
 use Rattle.notation.specs.OrderLaws.{sorted_ascending, sorted_member}
@@ -101,7 +101,7 @@ module _ {text heads before : List ℕ} (R : Rootable text heads before) where
   ps = R.productions
 
   abbrev hs : List Lexeme
-  hs = only isHead (lexemes text)
+  hs = only is_head (lexemes text)
 
   derived : Productions (tokens text) ps
   derived = reading R.reads

@@ -14,7 +14,7 @@ use Rattle.notation.specs.Lexer.{Piece, piece, no, Skipped, past, unclosed, gap,
 use Rattle.notation.specs.Lexical.{Spelled}
 use Rattle.notation.specs.LexicalText.{Yields, yields, no_way}
 use Rattle.notation.specs.LexicalToken.{token_sound}
-use Rattle.notation.specs.Places.{token_place, namePlace}
+use Rattle.notation.specs.Places.{token_place, name_place}
 use Rattle.lexer.specs.Meant.{meant, placed, ahead, Lexed}
 use Rattle.lexer.specs.declared.token.Token.{Token}
 use Rattle.naming.specs.Told.{stopped, SpeltAs, Spelt}
@@ -77,7 +77,7 @@ module _ {text : List ℕ} {at : ℕ} {t : Token} (L : Lexed text at t) where
         let k = is_one one in omega (arith, L.onward h, L.longer k.0 k.1, L.within k.0 k.1)
 
     -- Where its name is.
-    pub name_is : namePlace text (placed text t) ≡ t.name
+    pub name_is : name_place text (placed text t) ≡ t.name
     name_is =
         let k = is_one one in
         let e = ap length (L.named k.0 k.1) in

@@ -7,7 +7,7 @@ use Rattle.notation.specs.Lexer.{lexemes}
 use Rattle.notation.specs.At.{name_at}
 use Rattle.notation.specs.Compile.{insert}
 use Rattle.notation.specs.Uses.{head_of, def_of, switch_of}
-use Rattle.notation.specs.Places.{first_name, again, ninth, namePlace}
+use Rattle.notation.specs.Places.{first_name, again, ninth, name_place}
 use Rattle.index.specs.Listed.{names_at}
 use Rattle.naming.specs.Found.{found, here_if, or_else}
 use Rattle.naming.specs.declared.gather.Gathered.{Gathered}
@@ -31,8 +31,8 @@ gathered names before (l ∷ ls) = gathered names (inserted (names l.token) befo
 pub record Gathers (names : Token → List Name) (text at : List ℕ) (r : Gathered) : Type 0 where
   pub listed : names_at text at r.count ≡ gathered names [] (lexemes text)
   pub many : r.count ≡ length (gathered names [] (lexemes text))
-  pub again : r.again ≡ found (namePlace text) (first_name names again [] (lexemes text))
-  pub ninth : r.ninth ≡ found (namePlace text) (first_name names ninth [] (lexemes text))
+  pub again : r.again ≡ found (name_place text) (first_name names again [] (lexemes text))
+  pub ninth : r.ninth ≡ found (name_place text) (first_name names ninth [] (lexemes text))
 
 -- What adding the name at a place to what is gathered comes to.
 pub record Adds (text at : List ℕ) (g : Gathered) (p : ℕ) (now : List ℕ) (r : Gathered) : Type 0 where

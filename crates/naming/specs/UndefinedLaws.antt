@@ -11,7 +11,7 @@ use Rattle.notation.specs.Naming.{all, member, names, definitions}
 use Rattle.notation.specs.MemberLaws.{SameMembers}
 use Rattle.notation.specs.OrderLaws.{sorted_member}
 use Rattle.notation.specs.Uses.{head_of, call_of, def_of, ask_of}
-use Rattle.notation.specs.Places.{firstWhere, undefined}
+use Rattle.notation.specs.Places.{first_where, undefined}
 use Rattle.naming.specs.Gathered.{gathered}
 use Rattle.naming.specs.GatheredLaws.{heads_gathered, defs_gathered}
 
@@ -20,14 +20,14 @@ unfolding all
 all_alike f g h [] = refl
 all_alike f g h (n ∷ ns) = ap₂ (λ a b. pick a b false) (h n) (all_alike f g h ns)
 
-where_alike : (f g : Token → Bool) → ((t : Token) → f t ≡ g t) → (ls : List Lexeme) → firstWhere f ls ≡ firstWhere g ls
-unfolding firstWhere
+where_alike : (f g : Token → Bool) → ((t : Token) → f t ≡ g t) → (ls : List Lexeme) → first_where f ls ≡ first_where g ls
+unfolding first_where
 where_alike f g h [] = refl
 where_alike f g h (l ∷ ls) = ap₂ (λ b o. pick b (some l) o) (h l.token) (where_alike f g h ls)
 
 pub undefined_alike :
     (heads heads' defs defs' : List Name) → SameMembers heads heads' → SameMembers defs defs' → (ls : List Lexeme)
-    → firstWhere (undefined heads defs) ls ≡ firstWhere (undefined heads' defs') ls
+    → first_where (undefined heads defs) ls ≡ first_where (undefined heads' defs') ls
 undefined_alike heads heads' defs defs' a b =
     where_alike (undefined heads defs) (undefined heads' defs')
     (λ t. ap₂ (λ x y. pick x (pick y false true) true) (all_alike (λ n. member n heads) (λ n. member n heads') a (call_of t))
@@ -36,8 +36,8 @@ undefined_alike heads heads' defs defs' a b =
 -- WHAT IS GATHERED DECIDES IT, of a text that reads as productions.
 pub undefined_gathered :
     {text : List ℕ} {ps : List Production} → ReadsAs text ps → (ls : List Lexeme)
-    → firstWhere (undefined (gathered head_of [] (lexemes text)) (gathered def_of [] (lexemes text))) ls
-    ≡ firstWhere (undefined (names ps) (map (λ d. d.table) (definitions ps))) ls
+    → first_where (undefined (gathered head_of [] (lexemes text)) (gathered def_of [] (lexemes text))) ls
+    ≡ first_where (undefined (names ps) (map (λ d. d.table) (definitions ps))) ls
 undefined_gathered {text} {ps} r =
     undefined_alike (gathered head_of [] (lexemes text)) (names ps) (gathered def_of [] (lexemes text)) (map (λ d. d.table) (definitions ps))
     (λ n. ap (member n) (heads_gathered r) ∙ sorted_member n (names ps))

@@ -4,7 +4,7 @@ ghost use Rattle.grammar.specs.Grammar.{Grammar};
 ghost use Rattle.notation.specs.Tree.{Production};
 ghost use Rattle.notation.specs.Lexer.{lexemes};
 ghost use Rattle.notation.specs.Text.{ReadsAs};
-ghost use Rattle.notation.specs.Places.{namePlace, firstOver, imageUpTo, isHead, only};
+ghost use Rattle.notation.specs.Places.{name_place, first_over, image_up_to, is_head, only};
 ghost use Rattle.naming.specs.Found.{found};
 ghost use Rattle.naming.specs.Sized.{Sized};
 
@@ -26,7 +26,7 @@ fn is_past(base: usize, end: usize) -> bool
 // Finds the name of the first production whose nodes end past 16,384 bytes: those of the production of number i end `ends[i]` bytes behind the base.
 pub fn over_image(text: &[u8], base: usize, ends: &[u16]) -> Found
     ensures { (ps : List Production) (g : Grammar) → ReadsAs text.now ps → Sized g base ends.now ps
-        → result ≡ found (namePlace text.now) (firstOver 16384 (imageUpTo g) 0 ps (only isHead (lexemes text.now))) }
+        → result ≡ found (name_place text.now) (first_over 16384 (image_up_to g) 0 ps (only is_head (lexemes text.now))) }
 {
     let mut at = 0;
     let mut i = 0;

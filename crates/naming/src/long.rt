@@ -1,7 +1,7 @@
 // Quoted texts past their limit.
 ghost use Rattle.std.specs.Prelude.{◌≡◌};
 ghost use Rattle.notation.specs.Lexer.{lexemes};
-ghost use Rattle.notation.specs.Places.{token_place, firstWhere};
+ghost use Rattle.notation.specs.Places.{token_place, first_where};
 ghost use Rattle.notation.specs.Places as Places;
 ghost use Rattle.lexer.specs.Meant.{Numbers, meant};
 ghost use Rattle.naming.specs.Found.{found};
@@ -25,7 +25,7 @@ fn is_long(text: &[u8], t: Token) -> bool
 
 // Finds the first quoted text of over 64 bytes.
 pub fn first_long(text: &[u8]) -> Found
-    ensures { result ≡ found (token_place text.now) (firstWhere Places.long (lexemes text.now)) }
+    ensures { result ≡ found (token_place text.now) (first_where Places.long (lexemes text.now)) }
 {
     let mut at = 0;
     loop {

@@ -3,7 +3,7 @@ ghost use Rattle.std.specs.Prelude.{◌≡◌, List, ◌≤◌, length};
 ghost use Rattle.notation.specs.Tree.{Production};
 ghost use Rattle.notation.specs.Lexer.{lexemes};
 ghost use Rattle.notation.specs.Text.{ReadsAs};
-ghost use Rattle.notation.specs.Places.{namePlace, firstOver, isHead, only};
+ghost use Rattle.notation.specs.Places.{name_place, first_over, is_head, only};
 ghost use Rattle.naming.specs.Found.{found};
 
 use crate::found::{Found, first_of};
@@ -15,7 +15,7 @@ use lexer::token::token_from;
 pub fn over_nodes(text: &[u8]) -> Found
     requires { length text.now ≤ 65535 }
     ensures { (ps : List Production) → ReadsAs text.now ps
-        → result ≡ found (namePlace text.now) (firstOver 512 (λ n. n) 0 ps (only isHead (lexemes text.now))) }
+        → result ≡ found (name_place text.now) (first_over 512 (λ n. n) 0 ps (only is_head (lexemes text.now))) }
 {
     let mut at = 0;
     let mut nodes = 0;

@@ -3,7 +3,7 @@ ghost use Rattle.std.specs.Prelude.{◌≡◌, not, length};
 ghost use Rattle.notation.specs.Lexer.{lexemes};
 ghost use Rattle.notation.specs.At.{name_at};
 ghost use Rattle.notation.specs.Naming.{member};
-ghost use Rattle.notation.specs.Places.{namePlace, firstWhere};
+ghost use Rattle.notation.specs.Places.{name_place, first_where};
 ghost use Rattle.notation.specs.Places as Places;
 ghost use Rattle.index.specs.Listed.{names_at, Ascending};
 ghost use Rattle.lexer.specs.Meant.{Numbers, meant};
@@ -61,8 +61,8 @@ fn is_undefined(text: &[u8], heads: &[u16], tables: &[u16], t: Token) -> bool
 // of the tables that are defined, are at the places of the two lists.
 pub fn first_undefined(text: &[u8], heads: &[u16], tables: &[u16]) -> Found
     requires { Ascending (names_at text.now heads.now (length heads.now)) × Ascending (names_at text.now tables.now (length tables.now)) }
-    ensures { result ≡ found (namePlace text.now)
-        (firstWhere (Places.undefined (names_at text.now heads.now (length heads.now))
+    ensures { result ≡ found (name_place text.now)
+        (first_where (Places.undefined (names_at text.now heads.now (length heads.now))
         (names_at text.now tables.now (length tables.now))) (lexemes text.now)) }
 {
     let mut at = 0;

@@ -12,7 +12,7 @@ use Rattle.notation.specs.Symbols.{same_symbols}
 use Rattle.notation.specs.Naming.{member, all, distinct, agree}
 use Rattle.notation.specs.Compile.{order, insert, sorted, place, entry, count, choices, emit, emit_all, roots, patterns_in, patterns_all, first, compile}
 use Rattle.notation.specs.Uses.{per_token}
-use Rattle.notation.specs.Places.{behind_truth, name_in, token_place, firstWhere, first_name, firstOver, imageUpTo, only, numbered}
+use Rattle.notation.specs.Places.{behind_truth, name_in, token_place, first_where, first_name, first_over, image_up_to, only, numbered}
 use Rattle.notation.specs.OnePattern.{failing}
 use Rattle.notation.specs.Judged.{Answer, good, refused, judged}
 
@@ -22,7 +22,7 @@ answered room text = elim (parsed (tokens text)) [ unread ↦ refused 20 0 | rea
 
 -- 01's image H, as text: the very same grammar.
 harbour : answered 16384 (bytes "S = <def T [A-Z]+> '=' <is T>") ≡ good harbour_grammar
-unfolding post symbols ◌▸▸◌ close whole in_bracket in_angle stream skip front second block_on star_on name_front name_behind name_here sign_here truth_here quote at_mark feed high low simple turn begun ranged ◌++ᵖ◌ ◌∷ᵖ◌ ◌then◌ parts same word operator named_here classed class_here token lexed lexemes grow trees came parsed same_symbols member all distinct agree order insert sorted place entry count choices emit emit_all roots patterns_in patterns_all first compile behind_truth name_in firstWhere first_name firstOver imageUpTo only numbered failing judged answered
+unfolding post symbols ◌▸▸◌ close whole in_bracket in_angle stream skip front second block_on star_on name_front name_behind name_here sign_here truth_here quote at_mark feed high low simple turn begun ranged ◌++ᵖ◌ ◌∷ᵖ◌ ◌then◌ parts same word operator named_here classed class_here token lexed lexemes grow trees came parsed same_symbols member all distinct agree order insert sorted place entry count choices emit emit_all roots patterns_in patterns_all first compile behind_truth name_in first_where first_name first_over image_up_to only numbered failing judged answered
 harbour = refl
 
 -- Document 004, section 3.2: nested tags.
@@ -38,7 +38,7 @@ tags :
           ∷ Sequence 10 11 ∷ Sequence 9 12 ∷ Sequence 8 13 ∷ Sequence 5 14 ∷ Sequence 4 15 ∷ Sequence 2 16
           ∷ Range 65 122 ∷ Range 65 122 ∷ Range 48 57 ∷ Choice 19 20 ∷ Star 21 ∷ Sequence 18 22 ∷ [];
     })
-unfolding post symbols ◌▸▸◌ close whole in_bracket in_angle stream skip front second block_on star_on name_front name_behind name_here sign_here truth_here quote at_mark feed high low simple turn begun ranged ◌++ᵖ◌ ◌∷ᵖ◌ ◌then◌ parts same word operator named_here classed class_here token lexed lexemes grow trees came parsed same_symbols member all distinct agree order insert sorted place entry count choices emit emit_all roots patterns_in patterns_all first compile behind_truth name_in firstWhere first_name firstOver imageUpTo only numbered failing judged answered
+unfolding post symbols ◌▸▸◌ close whole in_bracket in_angle stream skip front second block_on star_on name_front name_behind name_here sign_here truth_here quote at_mark feed high low simple turn begun ranged ◌++ᵖ◌ ◌∷ᵖ◌ ◌then◌ parts same word operator named_here classed class_here token lexed lexemes grow trees came parsed same_symbols member all distinct agree order insert sorted place entry count choices emit emit_all roots patterns_in patterns_all first compile behind_truth name_in first_where first_name first_over image_up_to only numbered failing judged answered
 tags = refl
 
 -- The refusal's number, and 0 for a good text.
@@ -59,7 +59,7 @@ refusals :
     ∷ (bytes "A = '" ++ (replicate 64 46 ++ bytes "'")) ∷ (bytes "A = '" ++ (replicate 65 46 ++ bytes "'"))
     ∷ [])
     ≡ 20 ∷ 20 ∷ 20 ∷ 20 ∷ 20 ∷ 20 ∷ 20 ∷ 20 ∷ 21 ∷ 21 ∷ 21 ∷ 22 ∷ 22 ∷ 23 ∷ 0 ∷ 0 ∷ 24 ∷ 23 ∷ 0 ∷ 24 ∷ []
-unfolding post symbols ◌▸▸◌ close whole in_bracket in_angle stream skip front second block_on star_on name_front name_behind name_here sign_here truth_here quote at_mark feed high low simple turn begun ranged ◌++ᵖ◌ ◌∷ᵖ◌ ◌then◌ parts same word operator named_here classed class_here token lexed lexemes grow trees came parsed same_symbols member all distinct agree order insert sorted place entry count choices emit emit_all roots patterns_in patterns_all first compile behind_truth name_in firstWhere first_name firstOver imageUpTo only numbered failing judged answered
+unfolding post symbols ◌▸▸◌ close whole in_bracket in_angle stream skip front second block_on star_on name_front name_behind name_here sign_here truth_here quote at_mark feed high low simple turn begun ranged ◌++ᵖ◌ ◌∷ᵖ◌ ◌then◌ parts same word operator named_here classed class_here token lexed lexemes grow trees came parsed same_symbols member all distinct agree order insert sorted place entry count choices emit emit_all roots patterns_in patterns_all first compile behind_truth name_in first_where first_name first_over image_up_to only numbered failing judged answered
 refusals = refl
 
 -- Where the trouble is. In order: an undefined name; a table without a def, in angle brackets with blanks and a comment; an undefined name behind a condition; the second
@@ -73,12 +73,12 @@ placed :
     ∷ (bytes "A = . '" ++ (replicate 65 46 ++ bytes "'"))
     ∷ (bytes "A = . B = " ++ (replicate 256 46 ++ bytes " C = .")) ∷ [])
     ≡ refused 21 4 ∷ refused 21 8 ∷ refused 21 17 ∷ refused 21 13 ∷ refused 22 12 ∷ refused 23 14 ∷ refused 24 99 ∷ refused 24 80 ∷ refused 24 6 ∷ refused 24 267 ∷ []
-unfolding post symbols ◌▸▸◌ close whole in_bracket in_angle stream skip front second block_on star_on name_front name_behind name_here sign_here truth_here quote at_mark feed high low simple turn begun ranged ◌++ᵖ◌ ◌∷ᵖ◌ ◌then◌ parts same word operator named_here classed class_here token lexed lexemes grow trees came parsed same_symbols member all distinct agree order insert sorted place entry count choices emit emit_all roots patterns_in patterns_all first compile behind_truth name_in firstWhere first_name firstOver imageUpTo only numbered failing judged answered
+unfolding post symbols ◌▸▸◌ close whole in_bracket in_angle stream skip front second block_on star_on name_front name_behind name_here sign_here truth_here quote at_mark feed high low simple turn begun ranged ◌++ᵖ◌ ◌∷ᵖ◌ ◌then◌ parts same word operator named_here classed class_here token lexed lexemes grow trees came parsed same_symbols member all distinct agree order insert sorted place entry count choices emit emit_all roots patterns_in patterns_all first compile behind_truth name_in first_where first_name first_over image_up_to only numbered failing judged answered
 placed = refl
 
 -- An image of 6 bytes: no room in a buffer of 5, and enough in one of 6.
 roomed : map (λ room. number (answered room (bytes "A = ''"))) (5 ∷ 6 ∷ []) ≡ 25 ∷ 0 ∷ []
-unfolding post symbols ◌▸▸◌ close whole in_bracket in_angle stream skip front second block_on star_on name_front name_behind name_here sign_here truth_here quote at_mark feed high low simple turn begun ranged ◌++ᵖ◌ ◌∷ᵖ◌ ◌then◌ parts same word operator named_here classed class_here token lexed lexemes grow trees came parsed same_symbols member all distinct agree order insert sorted place entry count choices emit emit_all roots patterns_in patterns_all first compile behind_truth name_in firstWhere first_name firstOver imageUpTo only numbered failing judged answered
+unfolding post symbols ◌▸▸◌ close whole in_bracket in_angle stream skip front second block_on star_on name_front name_behind name_here sign_here truth_here quote at_mark feed high low simple turn begun ranged ◌++ᵖ◌ ◌∷ᵖ◌ ◌then◌ parts same word operator named_here classed class_here token lexed lexemes grow trees came parsed same_symbols member all distinct agree order insert sorted place entry count choices emit emit_all roots patterns_in patterns_all first compile behind_truth name_in first_where first_name first_over image_up_to only numbered failing judged answered
 roomed = refl
 
 -- Where tokens stand, and the last of them where they stop: a comment that does not close, behind a name and behind a name with which a text begins; what is no token; an

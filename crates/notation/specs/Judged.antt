@@ -10,7 +10,7 @@ use Rattle.notation.specs.Token.{Lexeme}
 use Rattle.notation.specs.Naming.{names, definitions}
 use Rattle.notation.specs.Compile.{compile}
 use Rattle.notation.specs.Uses.{head_of, def_of, switch_of}
-use Rattle.notation.specs.Places.{token_place, namePlace, firstWhere, first_name, undefined, again, ninth, long, firstOver, imageUpTo, isHead, only, unlike}
+use Rattle.notation.specs.Places.{token_place, name_place, first_where, first_name, undefined, again, ninth, long, first_over, image_up_to, is_head, only, unlike}
 
 pub data Answer : Type 0 where
   good : Grammar → Answer
@@ -25,7 +25,7 @@ or_else none found otherwise = otherwise
 module _ (text : List ℕ) (room : ℕ) (ps : List Production) (ls : List Lexeme) where
   -- At a token's name, or at the token itself.
   abbrev pub at_name : ℕ → Lexeme → Answer
-  at_name number l = refused number (namePlace text l)
+  at_name number l = refused number (name_place text l)
 
   abbrev pub at_token : ℕ → Lexeme → Answer
   at_token number l = refused number (token_place text l)
@@ -34,14 +34,14 @@ module _ (text : List ℕ) (room : ℕ) (ps : List Production) (ls : List Lexeme
   limited g =
       or_else (first_name def_of ninth [] ls) (at_name 24)
       (or_else (first_name switch_of ninth [] ls) (at_name 24)
-      (or_else (firstWhere long ls) (at_token 24)
-      (or_else (firstOver 512 (λ n. n) 0 ps (only isHead ls)) (at_name 24)
-      (or_else (firstOver 16384 (imageUpTo g) 0 ps (only isHead ls)) (at_name 24)
+      (or_else (first_where long ls) (at_token 24)
+      (or_else (first_over 512 (λ n. n) 0 ps (only is_head ls)) (at_name 24)
+      (or_else (first_over 16384 (image_up_to g) 0 ps (only is_head ls)) (at_name 24)
       (pick (leb (length (encode g)) room) (good g) (refused 25 0))))))
 
   -- 21, 22, 23, and then the limits.
   unfoldable pub judged : Answer
   judged =
-      or_else (firstWhere (undefined (names ps) (map (λ d. d.table) (definitions ps))) ls) (at_name 21)
+      or_else (first_where (undefined (names ps) (map (λ d. d.table) (definitions ps))) ls) (at_name 21)
       (or_else (first_name head_of again [] ls) (at_name 22)
       (or_else (unlike (definitions ps) ls) (at_token 23) (limited (compile ps))))

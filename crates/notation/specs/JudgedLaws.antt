@@ -17,7 +17,7 @@ use Rattle.notation.specs.Naming.{names, definitions, all_defined, once_named, o
 use Rattle.notation.specs.Limits.{fits}
 use Rattle.notation.specs.Compile.{compile}
 use Rattle.notation.specs.Uses.{head_of, def_of, switch_of}
-use Rattle.notation.specs.Places.{token_place, namePlace, firstWhere, first_name, undefined, again, ninth, long, firstOver, imageUpTo, isHead, only, unlike}
+use Rattle.notation.specs.Places.{token_place, name_place, first_where, first_name, undefined, again, ninth, long, first_over, image_up_to, is_head, only, unlike}
 use Rattle.notation.specs.PlacesLaws.{is_none, defined_place, once_place, pattern_place, tables_place, conditions_place, texts_place, nodes_place, image_place}
 use Rattle.notation.specs.SoundLaws.{within_limits}
 use Rattle.notation.specs.Judged.{Answer, good, refused, or_else, at_name, at_token, judged}
@@ -51,7 +51,7 @@ Refused n a = (p : ℕ) × (a ≡ refused n p)
 module _ (text : List ℕ) (room : ℕ) (ls : List Lexeme) {ps : List Production} (P : Productions (bare ls) ps) where
   -- The searches, and what is said from each on.
   abbrev name_lacks : Option Lexeme
-  name_lacks = firstWhere (undefined (names ps) (map (λ d. d.table) (definitions ps))) ls
+  name_lacks = first_where (undefined (names ps) (map (λ d. d.table) (definitions ps))) ls
 
   abbrev name_again : Option Lexeme
   name_again = first_name head_of again [] ls
@@ -66,13 +66,13 @@ module _ (text : List ℕ) (room : ℕ) (ls : List Lexeme) {ps : List Production
   condition_ninth = first_name switch_of ninth [] ls
 
   abbrev text_long : Option Lexeme
-  text_long = firstWhere long ls
+  text_long = first_where long ls
 
   abbrev nodes_over : Option Lexeme
-  nodes_over = firstOver 512 (λ n. n) 0 ps (only isHead ls)
+  nodes_over = first_over 512 (λ n. n) 0 ps (only is_head ls)
 
   abbrev image_over : Option Lexeme
-  image_over = firstOver 16384 (imageUpTo (compile ps)) 0 ps (only isHead ls)
+  image_over = first_over 16384 (image_up_to (compile ps)) 0 ps (only is_head ls)
 
   abbrev at_end : Answer
   at_end = pick (leb (length (encode (compile ps))) room) (good (compile ps)) (refused 25 0)
@@ -100,7 +100,7 @@ module _ (text : List ℕ) (room : ℕ) (ls : List Lexeme) {ps : List Production
 
   pub judged_undefined : all_defined ps ≡ false → Refused 21 (judged text room ps ls)
   unfolding judged
-  judged_undefined a = or_found name_lacks 21 (namePlace text) from_names (defined_place ls P ∙ a)
+  judged_undefined a = or_found name_lacks 21 (name_place text) from_names (defined_place ls P ∙ a)
 
   module _ (a : all_defined ps ≡ true) where
     judged_defined : judged text room ps ls ≡ from_names
@@ -108,7 +108,7 @@ module _ (text : List ℕ) (room : ℕ) (ls : List Lexeme) {ps : List Production
     judged_defined = or_none name_lacks (at_name text room ps ls 21) from_names (defined_place ls P ∙ a)
 
     pub judged_twice : once_named ps ≡ false → Refused 22 (judged text room ps ls)
-    judged_twice b = rw judged_defined (or_found name_again 22 (namePlace text) from_patterns (once_place ls P ∙ b))
+    judged_twice b = rw judged_defined (or_found name_again 22 (name_place text) from_patterns (once_place ls P ∙ b))
 
     module _ (b : once_named ps ≡ true) where
       judged_once : judged text room ps ls ≡ from_patterns
@@ -126,11 +126,11 @@ module _ (text : List ℕ) (room : ℕ) (ls : List Lexeme) {ps : List Production
         unfolding fits
         judged_past d =
             rw judged_one
-            (or_more table_ninth 24 (namePlace text) from_conditions (λ t.
-            or_more condition_ninth 24 (namePlace text) from_texts (λ u.
+            (or_more table_ninth 24 (name_place text) from_conditions (λ t.
+            or_more condition_ninth 24 (name_place text) from_texts (λ u.
             or_more text_long 24 (token_place text) from_nodes (λ v.
-            or_more nodes_over 24 (namePlace text) from_image (λ w.
-            or_more image_over 24 (namePlace text) at_end (λ x.
+            or_more nodes_over 24 (name_place text) from_image (λ w.
+            or_more image_over 24 (name_place text) at_end (λ x.
             let z : true ≡ false =
             rw (
               sym (tables_place ls P a) ∙ t,

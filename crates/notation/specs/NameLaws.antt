@@ -14,7 +14,7 @@ use Rattle.notation.specs.LexicalText.{no_way}
 use Rattle.notation.specs.LexicalToken.{name_complete, truth_complete}
 use Rattle.notation.specs.Lexer.{piece, ◌then◌, truth}
 use Rattle.notation.specs.Uses.{head_of, call_of, def_of, ask_of, switch_of}
-use Rattle.notation.specs.Places.{behind_truth, name_in, namePlace}
+use Rattle.notation.specs.Places.{behind_truth, name_in, name_place}
 use Rattle.notation.specs.EndsLaws.{Ends, whole, inner, ends_on, ends_placed, gap_ends, token_ends, then_named, then_truth}
 
 -- ## Where a name stands no gap does, and no `!`
@@ -95,13 +95,13 @@ name_stands {t} {s} S = go (has_name S)
 -- At the place of each lexeme's name that name stands.
 abbrev pub AllStand : (text : List ℕ) → List Lexeme → Type 0
 AllStand text [] = Unit
-AllStand text (l ∷ ls) = Stand (names_of l.token) (drop (namePlace text l) text) × AllStand text ls
+AllStand text (l ∷ ls) = Stand (names_of l.token) (drop (name_place text l) text) × AllStand text ls
 
 module _ (text : List ℕ) where
-  placed : {t : Token} {s r : List ℕ} → Ends text s → Spelled t s r → Stand (names_of t) (drop (namePlace text (record { here = s; token = t })) text)
+  placed : {t : Token} {s r : List ℕ} → Ends text s → Spelled t s r → Stand (names_of t) (drop (name_place text (record { here = s; token = t })) text)
   placed {t} {s} B S = go (has_name S)
     where
-      go : Has t s → Stand (names_of t) (drop (namePlace text (record { here = s; token = t })) text)
+      go : Has t s → Stand (names_of t) (drop (name_place text (record { here = s; token = t })) text)
       go (nameless e) = rw e tt
       go (one_name {r = r} e z N E) = rw (e, z, ends_placed (ends_on B E)) ((r, N), tt)
 

@@ -30,15 +30,15 @@ name_in (b ∷ s) = pick (eqb b (code "<")) (behind_truth (name s then λ w r. t
 abbrev pub token_place : List ℕ → Lexeme → ℕ
 token_place text l = place_of text l.here
 
-abbrev pub namePlace : List ℕ → Lexeme → ℕ
-namePlace text l = place_of text (name_in l.here)
+abbrev pub name_place : List ℕ → Lexeme → ℕ
+name_place text l = place_of text (name_in l.here)
 
 -- ## The first of its sort
 
 -- The first token of which a test holds.
-unfoldable pub firstWhere : (Token → Bool) → List Lexeme → Option Lexeme
-firstWhere test [] = none
-firstWhere test (l ∷ ls) = pick (test l.token) (some l) (firstWhere test ls)
+unfoldable pub first_where : (Token → Bool) → List Lexeme → Option Lexeme
+first_where test [] = none
+first_where test (l ∷ ls) = pick (test l.token) (some l) (first_where test ls)
 
 -- The first token that names what a test, which knows the names before it, does not let pass. The names before it are in byte order, each once.
 unfoldable pub first_name : (Token → List Name) → (List Name → Name → Bool) → (before : List Name) → List Lexeme → Option Lexeme
@@ -66,19 +66,19 @@ abbrev pub long : Token → Bool
 long t = pick (all is_short (quoted_in t)) false true
 
 -- 24: the production with which a size goes over its limit, the size being told by the number of nodes so far.
-unfoldable pub firstOver : (limit : ℕ) (size : ℕ → ℕ) (nodes : ℕ) → List Production → (heads : List Lexeme) → Option Lexeme
-firstOver limit size nodes [] heads = none
-firstOver limit size nodes (p ∷ ps) [] = none
-firstOver limit size nodes (p ∷ ps) (h ∷ heads) =
-    let later = nodes + count p.body in pick (ltb limit (size later)) (some h) (firstOver limit size later ps heads)
+unfoldable pub first_over : (limit : ℕ) (size : ℕ → ℕ) (nodes : ℕ) → List Production → (heads : List Lexeme) → Option Lexeme
+first_over limit size nodes [] heads = none
+first_over limit size nodes (p ∷ ps) [] = none
+first_over limit size nodes (p ∷ ps) (h ∷ heads) =
+    let later = nodes + count p.body in pick (ltb limit (size later)) (some h) (first_over limit size later ps heads)
 
 -- The bytes of an image up to the end of so many nodes.
-unfoldable pub imageUpTo : Grammar → ℕ → ℕ
-imageUpTo g n = length (numbers (heading g)) + length (numbers g.patterns) + length (written encode_node (take n g.nodes))
+unfoldable pub image_up_to : Grammar → ℕ → ℕ
+image_up_to g n = length (numbers (heading g)) + length (numbers g.patterns) + length (written encode_node (take n g.nodes))
 
 -- The heads, and the defs, among a text's lexemes.
-abbrev pub isHead : Token → Bool
-isHead t = elim (head_of t) [ [] ↦ false | n ∷ more ↦ true ]
+abbrev pub is_head : Token → Bool
+is_head t = elim (head_of t) [ [] ↦ false | n ∷ more ↦ true ]
 
 abbrev pub is_def : Token → Bool
 is_def t = elim (def_of t) [ [] ↦ false | n ∷ more ↦ true ]

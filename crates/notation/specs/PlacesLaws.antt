@@ -33,7 +33,7 @@ use Rattle.notation.specs.Uses.{per_token, heads_in, defs_in, conditions_in, is_
 use Rattle.notation.specs.UsesLaws.{heads_are, defs_are, defined_are, once_are, tables_sorted, conditions_sorted, texts_are}
 use Rattle.notation.specs.OnePattern.{fault}
 use Rattle.notation.specs.OnePatternLaws.{first_fault, fault_none}
-use Rattle.notation.specs.Places.{firstWhere, first_name, undefined, again, ninth, long, firstOver, imageUpTo, isHead, is_def, only, numbered, unlike}
+use Rattle.notation.specs.Places.{first_where, first_name, undefined, again, ninth, long, first_over, image_up_to, is_head, is_def, only, numbered, unlike}
 
 -- Nothing is found.
 abbrev pub is_none : {A : Type 0} → Option A → Bool
@@ -46,13 +46,13 @@ neg b = pick b false true
 
 -- ## The first of which a test holds
 
-none_where : (test : Token → Bool) (ls : List Lexeme) → is_none (firstWhere test ls) ≡ all (λ t. neg (test t)) (bare ls)
-unfolding firstWhere all
+none_where : (test : Token → Bool) (ls : List Lexeme) → is_none (first_where test ls) ≡ all (λ t. neg (test t)) (bare ls)
+unfolding first_where all
 none_where test [] = refl
 none_where test (l ∷ ls) = go (test l.token) refl (none_where test ls)
   where
-    go : (b : Bool) → test l.token ≡ b → is_none (firstWhere test ls) ≡ all (λ t. neg (test t)) (bare ls)
-        → is_none (firstWhere test (l ∷ ls)) ≡ all (λ t. neg (test t)) (bare (l ∷ ls))
+    go : (b : Bool) → test l.token ≡ b → is_none (first_where test ls) ≡ all (λ t. neg (test t)) (bare ls)
+        → is_none (first_where test (l ∷ ls)) ≡ all (λ t. neg (test t)) (bare (l ∷ ls))
     go true q i = rw q
     go false q i = rw q i
 
@@ -82,7 +82,7 @@ module _ {A : Type 0} where
 
 module _ (ls : List Lexeme) {ps : List Production} (P : Productions (bare ls) ps) where
   -- 21
-  pub defined_place : is_none (firstWhere (undefined (names ps) (map (λ d. d.table) (definitions ps))) ls) ≡ all_defined ps
+  pub defined_place : is_none (first_where (undefined (names ps) (map (λ d. d.table) (definitions ps))) ls) ≡ all_defined ps
   defined_place =
       none_where (undefined (names ps) (map (λ d. d.table) (definitions ps))) ls
       ∙ all_same (λ t. neg (undefined (names ps) (map (λ d. d.table) (definitions ps)) t)) (λ t. pick (called t) (asked t) false)
@@ -114,7 +114,7 @@ passes test seen (n ∷ ns) = pick (test seen n) false (passes test (insert n se
 abbrev NamesOne : (Token → List Name) → (Token → Bool) → Type 0
 NamesOne say test = (t : Token) → length (say t) ≡ pick (test t) 1 0
 
-head_names : NamesOne head_of isHead
+head_names : NamesOne head_of is_head
 head_names (head n) = refl
 head_names (leaf l) = refl
 head_names (opens o) = refl
@@ -239,7 +239,7 @@ apart_none (n ∷ ns) = apart_none ns
 pub once_place :
     (ls : List Lexeme) {ps : List Production} → Productions (bare ls) ps → is_none (first_name head_of again [] ls) ≡ once_named ps
 once_place ls {ps} P =
-    none_named head_of (names_one head_of isHead head_names) again [] ls ∙ passes_once [] (heads_in (bare ls))
+    none_named head_of (names_one head_of is_head head_names) again [] ls ∙ passes_once [] (heads_in (bare ls))
     ∙ ap (λ b. pick b (distinct (heads_in (bare ls))) false) (apart_none (heads_in (bare ls))) ∙ sym (once_are P)
 
 -- ## 24: at most eight names
@@ -303,7 +303,7 @@ module _ (ls : List Lexeme) {ps : List Production} (P : Productions (bare ls) ps
 
   -- ## 24: quoted texts
 
-  pub texts_place : is_none (firstWhere long ls) ≡ all (λ b. b) (everywhere (per_leaf short) ps)
+  pub texts_place : is_none (first_where long ls) ≡ all (λ b. b) (everywhere (per_leaf short) ps)
   texts_place =
       none_where long ls ∙ all_same (λ t. neg (long t)) (λ t. all is_short (quoted_in t)) (λ t. twice (all is_short (quoted_in t))) (bare ls)
       ∙ sym (all_said is_short quoted_in (bare ls)) ∙ sym (texts_are P)
@@ -325,8 +325,8 @@ only_length say test f (l ∷ ls) = go (test l.token) refl (only_length say test
     go false q i = rw q (omega (arith, rw q at (f l.token), length-append (say l.token) (per_token say (bare ls))))
 
 module _ (ls : List Lexeme) {ps : List Production} (P : Productions (bare ls) ps) where
-  pub heads_length : length (only isHead ls) ≡ length ps
-  heads_length = only_length head_of isHead head_names ls ∙ ap length (heads_are P) ∙ length-map ps (λ p. p.name)
+  pub heads_length : length (only is_head ls) ≡ length ps
+  heads_length = only_length head_of is_head head_names ls ∙ ap length (heads_are P) ∙ length-map ps (λ p. p.name)
 
   pub defs_length : length (only is_def ls) ≡ length (definitions ps)
   defs_length = only_length def_of is_def def_names ls ∙ ap length (defs_are P) ∙ length-map (definitions ps) (λ d. d.table)
@@ -375,16 +375,16 @@ module _ (limit : ℕ) (sized : ℕ → ℕ) (grows : (n k : ℕ) → sized n �
   over_one :
       (k : ℕ) (p : Production) (ps : List Production) (h : Lexeme) (heads : List Lexeme)
       → (let later = k + count p.body in
-      (sized later ≤ limit → is_none (firstOver limit sized later ps heads) ≡ leb (sized (nodes_behind later ps)) limit)
-      → is_none (firstOver limit sized k (p ∷ ps) (h ∷ heads)) ≡ leb (sized (nodes_behind k (p ∷ ps))) limit)
-  unfolding firstOver
+      (sized later ≤ limit → is_none (first_over limit sized later ps heads) ≡ leb (sized (nodes_behind later ps)) limit)
+      → is_none (first_over limit sized k (p ∷ ps) (h ∷ heads)) ≡ leb (sized (nodes_behind k (p ∷ ps))) limit)
+  unfolding first_over
   over_one k p ps h heads i = rw (behind_one k p ps) (go (ltb limit (sized later)) refl)
     where
       later : ℕ
       later = k + count p.body
 
       go : (b : Bool) → ltb limit (sized later) ≡ b
-          → is_none (pick (ltb limit (sized later)) (some h) (firstOver limit sized later ps heads)) ≡ leb (sized (nodes_behind later ps)) limit
+          → is_none (pick (ltb limit (sized later)) (some h) (first_over limit sized later ps heads)) ≡ leb (sized (nodes_behind later ps)) limit
       go true q =
           let l = ltb-true limit (sized later) q in
           let g = grows later (length (emit_all pn tn cn later ps)) in
@@ -393,15 +393,15 @@ module _ (limit : ℕ) (sized : ℕ → ℕ) (grows : (n k : ℕ) → sized n �
 
   over_later :
       (ps : List Production) (k : ℕ) (heads : List Lexeme) → length heads ≡ length ps → sized k ≤ limit
-      → is_none (firstOver limit sized k ps heads) ≡ leb (sized (nodes_behind k ps)) limit
-  unfolding firstOver emit_all
+      → is_none (first_over limit sized k ps heads) ≡ leb (sized (nodes_behind k ps)) limit
+  unfolding first_over emit_all
   over_later [] k heads e h = let z : k + 0 ≡ k = omega arith in rw z (sym (le-leb (sized k) limit h))
   over_later (p ∷ ps) k [] e h = absurd (omega arith)
   over_later (p ∷ ps) k (l ∷ heads) e h = over_one k p ps l heads (over_later ps (k + count p.body) heads (omega arith))
 
   over_some :
       (ps : List Production) (heads : List Lexeme) → length heads ≡ length ps → 0 < length ps
-      → is_none (firstOver limit sized 0 ps heads) ≡ leb (sized (nodes_behind 0 ps)) limit
+      → is_none (first_over limit sized 0 ps heads) ≡ leb (sized (nodes_behind 0 ps)) limit
   over_some [] heads e h = absurd (omega arith)
   over_some (p ∷ ps) [] e h = absurd (omega arith)
   over_some (p ∷ ps) (l ∷ heads) e h = over_one 0 p ps l heads (over_later ps (0 + count p.body) heads (omega arith))
@@ -420,12 +420,12 @@ written_grows (x ∷ xs) ys =
       written_grows xs ys,
     )
 
-image_grows : (g : Grammar) (n k : ℕ) → imageUpTo g n ≤ imageUpTo g (n + k)
-unfolding imageUpTo
+image_grows : (g : Grammar) (n k : ℕ) → image_up_to g n ≤ image_up_to g (n + k)
+unfolding image_up_to
 image_grows g n k = rw (take-add n k g.nodes) (omega (arith, written_grows (take n g.nodes) (take k (drop n g.nodes))))
 
-whole_image : (g : Grammar) → imageUpTo g (size g) ≡ length (encode g)
-unfolding imageUpTo
+whole_image : (g : Grammar) → image_up_to g (size g) ≡ length (encode g)
+unfolding image_up_to
 whole_image g =
     rw (take-length g.nodes)
     (omega (
@@ -437,14 +437,14 @@ whole_image g =
 module _ (ls : List Lexeme) {ps : List Production} (P : Productions (bare ls) ps) where
   over_place :
       (limit : ℕ) (sized : ℕ → ℕ) → ((n k : ℕ) → sized n ≤ sized (n + k))
-      → is_none (firstOver limit sized 0 ps (only isHead ls)) ≡ leb (sized (size (compile ps))) limit
+      → is_none (first_over limit sized 0 ps (only is_head ls)) ≡ leb (sized (size (compile ps))) limit
   unfolding compile
   over_place limit sized grows =
-      over_some limit sized grows (production_number ps) (table_number ps) (condition_number ps) ps (only isHead ls) (heads_length ls P) (some_production P)
+      over_some limit sized grows (production_number ps) (table_number ps) (condition_number ps) ps (only is_head ls) (heads_length ls P) (some_production P)
       ∙ ap (λ n. leb (sized n) limit) (omega arith)
 
-  pub nodes_place : is_none (firstOver 512 (λ n. n) 0 ps (only isHead ls)) ≡ leb (size (compile ps)) 512
+  pub nodes_place : is_none (first_over 512 (λ n. n) 0 ps (only is_head ls)) ≡ leb (size (compile ps)) 512
   nodes_place = over_place 512 (λ n. n) (λ n k. omega arith)
 
-  pub image_place : is_none (firstOver 16384 (imageUpTo (compile ps)) 0 ps (only isHead ls)) ≡ leb (length (encode (compile ps))) 16384
-  image_place = over_place 16384 (imageUpTo (compile ps)) (image_grows (compile ps)) ∙ ap (λ n. leb n 16384) (whole_image (compile ps))
+  pub image_place : is_none (first_over 16384 (image_up_to (compile ps)) 0 ps (only is_head ls)) ≡ leb (length (encode (compile ps))) 16384
+  image_place = over_place 16384 (image_up_to (compile ps)) (image_grows (compile ps)) ∙ ap (λ n. leb n 16384) (whole_image (compile ps))

@@ -9,11 +9,11 @@ abbrev pub packed : (kind at held steps depth : ℕ) → ℕ
 packed kind at held steps depth = at + held * 65536 + depth * 33554432 + steps * 17179869184 + kind * 1152921504606846976
 
 -- What a number has of each part, but of the steps only a passed one.
-unfoldable pub atOf : ℕ → ℕ
-atOf r = r % 65536
+unfoldable pub at_of : ℕ → ℕ
+at_of r = r % 65536
 
-unfoldable pub heldOf : ℕ → ℕ
-heldOf r = r / 65536 % 512
+unfoldable pub held_of : ℕ → ℕ
+held_of r = r / 65536 % 512
 
 unfoldable pub depth_of : ℕ → ℕ
 depth_of r = r / 33554432 % 512
@@ -24,6 +24,6 @@ steps_of r = r / 17179869184
 -- By its kind, which is above 2 ^ 60: 0 passed, 1 failed, else the refusal's number.
 unfoldable pub opened_of : ℕ → Outcome
 opened_of r =
-    pick (ltb r 1152921504606846976) (Passed (atOf r) (heldOf r) (steps_of r) (depth_of r))
+    pick (ltb r 1152921504606846976) (Passed (at_of r) (held_of r) (steps_of r) (depth_of r))
     (pick (ltb r 2305843009213693952) (Failed (r / 17179869184 % 67108864) (depth_of r))
-    (Refused (r / 1152921504606846976) (atOf r) (r / 17179869184 % 67108864) (depth_of r)))
+    (Refused (r / 1152921504606846976) (at_of r) (r / 17179869184 % 67108864) (depth_of r)))

@@ -7,7 +7,7 @@ use borrow.Author.Tests.{lt-ltb, le-ltb}
 use Rattle.format.specs.Reading.{pick}
 use Rattle.parts.specs.declared.outcome.Outcome.{Outcome}
 use Rattle.parts.specs.declared.outcome.Outcome.TheVariants.{Passed, Failed, Refused}
-use Rattle.parts.specs.Packed.{packed, atOf, heldOf, steps_of, depth_of, opened_of}
+use Rattle.parts.specs.Packed.{packed, at_of, held_of, steps_of, depth_of, opened_of}
 
 -- ## Shut and opened
 
@@ -16,12 +16,12 @@ module _ (kind at held steps depth : ℕ) (hk : kind < 16) (ha : at ≤ 65535) (
   abbrev number : ℕ
   number = packed kind at held steps depth
 
-  place_back : atOf number ≡ at
-  unfolding atOf
+  place_back : at_of number ≡ at
+  unfolding at_of
   place_back = omega (arith, div-add-mod' number 65536, mod-lt number {m = 65536} (omega arith))
 
-  held_back : heldOf number ≡ held
-  unfolding heldOf
+  held_back : held_of number ≡ held
+  unfolding held_of
   held_back =
       let q = number / 65536 in
       omega (arith, div-add-mod' number 65536, mod-lt number {m = 65536} (omega arith), div-add-mod' q 512, mod-lt q {m = 512} (omega arith))
@@ -65,12 +65,12 @@ module _ (kind at held steps depth : ℕ) (hk : kind < 16) (ha : at ≤ 65535) (
 -- ## The number that an expression starts from
 
 module _ (from : ℕ) where
-  pub place_small : atOf from ≤ 65535
-  unfolding atOf
+  pub place_small : at_of from ≤ 65535
+  unfolding at_of
   place_small = omega (arith, mod-lt from {m = 65536} (omega arith))
 
-  pub held_small : heldOf from ≤ 511
-  unfolding heldOf
+  pub held_small : held_of from ≤ 511
+  unfolding held_of
   held_small = omega (arith, mod-lt (from / 65536) {m = 512} (omega arith))
 
   pub depth_small : depth_of from ≤ 511
@@ -78,8 +78,8 @@ module _ (from : ℕ) where
   depth_small = omega (arith, mod-lt (from / 33554432) {m = 512} (omega arith))
 
   -- It is its parts.
-  pub whole : from ≡ packed 0 (atOf from) (heldOf from) (steps_of from) (depth_of from)
-  unfolding atOf heldOf depth_of steps_of
+  pub whole : from ≡ packed 0 (at_of from) (held_of from) (steps_of from) (depth_of from)
+  unfolding at_of held_of depth_of steps_of
   whole =
       omega (
         arith,
@@ -114,18 +114,18 @@ module _ (from : ℕ) where
     short_number = omega (arith, whole, place_small, held_small, depth_small)
 
     pub opens_stopped : (number : ℕ) → 12 ≤ number → number ≤ 15
-        → opened_of (from + number * 1152921504606846976) ≡ Refused number (atOf from) (steps_of from) (depth_of from)
+        → opened_of (from + number * 1152921504606846976) ≡ Refused number (at_of from) (steps_of from) (depth_of from)
     opens_stopped number l h =
-        let e : from + number * 1152921504606846976 ≡ packed number (atOf from) (heldOf from) (steps_of from) (depth_of from) = omega (arith, whole) in
+        let e : from + number * 1152921504606846976 ≡ packed number (at_of from) (held_of from) (steps_of from) (depth_of from) = omega (arith, whole) in
         ap opened_of e
-        ∙ opens_refused number (atOf from) (heldOf from) (steps_of from) (depth_of from) (omega arith) place_small held_small (omega (arith, few)) depth_small
+        ∙ opens_refused number (at_of from) (held_of from) (steps_of from) (depth_of from) (omega arith) place_small held_small (omega (arith, few)) depth_small
         (omega arith)
 
-    pub opens_onward : atOf from + 1 ≤ 65535 → opened_of (from + 1) ≡ Passed (atOf from + 1) (heldOf from) (steps_of from) (depth_of from)
+    pub opens_onward : at_of from + 1 ≤ 65535 → opened_of (from + 1) ≡ Passed (at_of from + 1) (held_of from) (steps_of from) (depth_of from)
     opens_onward l =
-        let e : from + 1 ≡ packed 0 (atOf from + 1) (heldOf from) (steps_of from) (depth_of from) = omega (arith, whole) in
+        let e : from + 1 ≡ packed 0 (at_of from + 1) (held_of from) (steps_of from) (depth_of from) = omega (arith, whole) in
         ap opened_of e
-        ∙ opens_passed 0 (atOf from + 1) (heldOf from) (steps_of from) (depth_of from) (omega arith) l held_small (omega (arith, few)) depth_small refl
+        ∙ opens_passed 0 (at_of from + 1) (held_of from) (steps_of from) (depth_of from) (omega arith) l held_small (omega (arith, few)) depth_small refl
 
     pub opens_lost : opened_of (from / 33554432 * 33554432 + 1152921504606846976) ≡ Failed (steps_of from) (depth_of from)
     opens_lost =
@@ -134,16 +134,16 @@ module _ (from : ℕ) where
         ∙ opens_failed 1 0 0 (steps_of from) (depth_of from) (omega arith) (omega arith) (omega arith) (omega (arith, few)) depth_small refl
 
 -- What passed has the parts that it is opened to.
-pub has_parts : (r : ℕ) {a h s d : ℕ} → opened_of r ≡ Passed a h s d → (a ≡ atOf r) × (h ≡ heldOf r) × (s ≡ steps_of r) × (d ≡ depth_of r)
+pub has_parts : (r : ℕ) {a h s d : ℕ} → opened_of r ≡ Passed a h s d → (a ≡ at_of r) × (h ≡ held_of r) × (s ≡ steps_of r) × (d ≡ depth_of r)
 unfolding opened_of
 has_parts r {a} {h} {s} {d} e = go (ltb r 1152921504606846976) (ltb r 2305843009213693952) e
   where
-    go : (b c : Bool) → pick b (Passed (atOf r) (heldOf r) (steps_of r) (depth_of r)) (pick c (Failed (r / 17179869184 % 67108864) (depth_of r))
-        (Refused (r / 1152921504606846976) (atOf r) (r / 17179869184 % 67108864) (depth_of r))) ≡ Passed a h s d
-        → (a ≡ atOf r) × (h ≡ heldOf r) × (s ≡ steps_of r) × (d ≡ depth_of r)
+    go : (b c : Bool) → pick b (Passed (at_of r) (held_of r) (steps_of r) (depth_of r)) (pick c (Failed (r / 17179869184 % 67108864) (depth_of r))
+        (Refused (r / 1152921504606846976) (at_of r) (r / 17179869184 % 67108864) (depth_of r))) ≡ Passed a h s d
+        → (a ≡ at_of r) × (h ≡ held_of r) × (s ≡ steps_of r) × (d ≡ depth_of r)
     go true c e = (cc, cc, cc, cc)
     go false true e = let z : ◌≡◌ {A = ℕ} 0 1 = cc in absurd (omega arith)
     go false false e = let z : ◌≡◌ {A = ℕ} 0 1 = cc in absurd (omega arith)
 
-pub opened_parts : (r : ℕ) {a h s d : ℕ} → opened_of r ≡ Passed a h s d → opened_of r ≡ Passed (atOf r) (heldOf r) (steps_of r) (depth_of r)
+pub opened_parts : (r : ℕ) {a h s d : ℕ} → opened_of r ≡ Passed a h s d → opened_of r ≡ Passed (at_of r) (held_of r) (steps_of r) (depth_of r)
 opened_parts r e = let p = has_parts r e in rw (sym p.0, sym p.1, sym p.2, sym p.3) e

@@ -1,7 +1,7 @@
 // What an expression comes to, and what it starts from, in one number.
 ghost use Rattle.std.specs.Prelude.{◌≡◌, true, ◌+◌, ◌≤◌, ◌<◌};
 ghost use Rattle.format.specs.Reading.{pick};
-ghost use Rattle.parts.specs.Packed.{packed, atOf, heldOf, steps_of, depth_of, opened_of};
+ghost use Rattle.parts.specs.Packed.{packed, at_of, held_of, steps_of, depth_of, opened_of};
 
 // Passed, at a place and with so many symbols held; failed; or refused, with a number and a place. With the steps spent and the greatest
 // depth entered so far.
@@ -86,13 +86,13 @@ pub fn opened(r: u64) -> Outcome
 
 // A passed outcome is the number that the next expression starts from. What it has of each part:
 pub fn at_of(from: u64) -> u32
-    ensures { result ≡ atOf from }
+    ensures { result ≡ at_of from }
 {
     (from % 65536) as u32
 }
 
 pub fn held_of(from: u64) -> u32
-    ensures { result ≡ heldOf from }
+    ensures { result ≡ held_of from }
 {
     (from / 65536 % 512) as u32
 }
@@ -112,15 +112,15 @@ pub fn steps_of(from: u64) -> u32
 // Refused where an expression would have started. The symbols held stay in the number, and no refusal is opened with them.
 pub fn stopped(number: u32, from: u64) -> u64
     requires { (12 ≤ number) × (number ≤ 15) × (steps_of from ≤ 1000000) }
-    ensures { opened_of result ≡ Outcome.Refused number (atOf from) (steps_of from) (depth_of from) }
+    ensures { opened_of result ≡ Outcome.Refused number (at_of from) (steps_of from) (depth_of from) }
 {
     from + (number as u64) * 1152921504606846976
 }
 
 // One byte further, with what else there is as it is; or failed.
 pub fn onward(ok: bool, from: u64) -> u64
-    requires { (ok ≡ true → atOf from + 1 ≤ 65535) × (steps_of from ≤ 1000000) }
-    ensures { opened_of result ≡ pick ok (Outcome.Passed (atOf from + 1) (heldOf from) (steps_of from) (depth_of from)) (Outcome.Failed (steps_of from) (depth_of from)) }
+    requires { (ok ≡ true → at_of from + 1 ≤ 65535) × (steps_of from ≤ 1000000) }
+    ensures { opened_of result ≡ pick ok (Outcome.Passed (at_of from + 1) (held_of from) (steps_of from) (depth_of from)) (Outcome.Failed (steps_of from) (depth_of from)) }
 {
     if ok {
         return from + 1;

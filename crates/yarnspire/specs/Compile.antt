@@ -40,13 +40,13 @@ abbrev pub length_of : Compiled → ℕ
 length_of (Written n) = n
 length_of (Refused number at) = 0
 
-abbrev pub atOf : Compiled → ℕ
-atOf (Written n) = 0
-atOf (Refused number at) = at
+abbrev pub at_of : Compiled → ℕ
+at_of (Written n) = 0
+at_of (Refused number at) = at
 
 pub record ThreeNumbers (text before after : List ℕ) (number long at : ℕ) : Type 0 where
   pub compiled : Compiled
   pub compiles : Compiles text before after compiled
   pub number_is : number ≡ number_of compiled
   pub length_is : long ≡ length_of compiled
-  pub at_is : at ≡ atOf compiled
+  pub at_is : at ≡ at_of compiled

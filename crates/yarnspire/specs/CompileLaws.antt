@@ -11,7 +11,7 @@ use Rattle.compiler.specs.Compiles as compiler
 use Rattle.compiler.specs.CompilesLaws.{one_outcome as one_given}
 use Rattle.compiler.specs.declared.image.Compiled.{Compiled}
 use Rattle.compiler.specs.declared.image.Compiled.TheVariants.{Written, Refused}
-use Rattle.yarnspire.specs.Compile.{Compiles, number_of, length_of, atOf, ThreeNumbers}
+use Rattle.yarnspire.specs.Compile.{Compiles, number_of, length_of, at_of, ThreeNumbers}
 
 no_way : {A : Type 0} → ◌≡◌ {A = ℕ} 0 1 → A
 no_way z = absurd (omega arith)
@@ -81,6 +81,6 @@ one_triple h h' =
     let e = one_outcome h.compiles h'.compiles in (
       h.number_is ∙ ap number_of e.0 ∙ sym h'.number_is,
       h.length_is ∙ ap length_of e.0 ∙ sym h'.length_is,
-      h.at_is ∙ ap atOf e.0 ∙ sym h'.at_is,
+      h.at_is ∙ ap at_of e.0 ∙ sym h'.at_is,
       e.1,
     )

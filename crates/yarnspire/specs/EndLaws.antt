@@ -16,7 +16,7 @@ use Rattle.parts.specs.declared.outcome.Outcome as o
 use Rattle.parts.specs.declared.outcome.Outcome.TheVariants as ov
 use Rattle.parts.specs.Slots.{symbol_at, symbols}
 use Rattle.parts.specs.SlotsLaws.{symbols_length}
-use Rattle.parts.specs.Packed.{atOf, heldOf, steps_of, depth_of, opened_of}
+use Rattle.parts.specs.Packed.{at_of, held_of, steps_of, depth_of, opened_of}
 use Rattle.kinds.specs.declared.state.State as st
 use Rattle.kinds.specs.Held.{env_of}
 use Rattle.kinds.specs.Turned.{Bounds}
@@ -174,7 +174,7 @@ module _ {code image input slots : List ℕ} {start : ℕ} (runs : Runs code ima
 
   -- The number that it starts from has nothing in any part.
   start_has : Has 0 0 0 0 0
-  unfolding atOf heldOf steps_of depth_of
+  unfolding at_of held_of steps_of depth_of
   start_has = record { place = refl; names = refl; spent = refl; deepest = refl }
 
   module _ (bytes : List ℕ) (held : bytes ≡ image ++ drop (length image) (replicate 16384 0)) where
@@ -196,7 +196,7 @@ module _ {code image input slots : List ℕ} {start : ℕ} (runs : Runs code ima
         )
 
     module _ (state : st.State) (truths : env_of state ≡ outset) {after : List ℕ} {r : ℕ}
-        (ends : Done (heldOf 0) store after r (saying code bytes input state store (depth_limit code) 0 start)) where
+        (ends : Done (held_of 0) store after r (saying code bytes input state store (depth_limit code) 0 start)) where
       done : Done 0 store after r (telling code image input state (depth_limit code) 0 0 (node g start) 0 (symbols 0 store))
       done =
           subst (λ i. Done 0 store after r (telling code i input state (depth_limit code) 0 0 (node (grammar_of i) start) 0 (symbols 0 store))) lent_image

@@ -1,7 +1,7 @@
 -- `lacking` meets its promise: what is gathered decides what is undefined. Assumes nothing.
 use mathlib.Core.Path.{ap, ◌∙◌}
 use Rattle.notation.specs.Uses.{head_of}
-use Rattle.notation.specs.Places.{namePlace}
+use Rattle.notation.specs.Places.{name_place}
 use Rattle.notation.specs.Lexer.{lexemes}
 use Rattle.naming.specs.Found.{found}
 use Rattle.naming.specs.GatheredLaws.{gathered_ascending}
@@ -26,4 +26,4 @@ pub returns : goal.returns
 returns c ps r = let text = c.args.text.now in
     c.first_undefined.ensures
     ∙ rw (c.requires.1, gathers_listed c.gather-g.ensures)
-    (ap (found (namePlace text)) (undefined_gathered r (lexemes text)))
+    (ap (found (name_place text)) (undefined_gathered r (lexemes text)))

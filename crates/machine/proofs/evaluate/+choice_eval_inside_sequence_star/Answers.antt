@@ -4,7 +4,7 @@ use Rattle.std.specs.Prelude.{ltb}
 use Rattle.std.specs.Bool.{beq}
 use Rattle.std.proofs.Math.Nat.{pos_of_ne-zero}
 use Rattle.grammar.specs.Grammar.{node}
-use Rattle.parts.specs.Packed.{atOf, heldOf, steps_of, depth_of}
+use Rattle.parts.specs.Packed.{at_of, held_of, steps_of, depth_of}
 use Rattle.parts.specs.declared.outcome.Outcome.TheVariants.{Passed}
 use Rattle.parts.specs.PackedLaws.{opened_parts}
 use Rattle.kinds.specs.Turned.{Bounds}
@@ -41,7 +41,7 @@ sequence-returns t c = let a = c.args in
     let e = opened_parts c.eval-r.result (sym c.opened-first.ensures ∙ c.in-Passed.is) in
     let b = bounds_of a.state n c.requires.0 c.eval-r.ensures in
     then_go c.eval-r.ensures (λ q τ s d. running a.code.now a.image.now a.input.now a.state a.left s d a.b q τ)
-    e (subst (Bounds (length a.input.now) (atOf a.from) (heldOf a.from) (room_limit a.code.now)) e b).2 c.eval.ensures
+    e (subst (Bounds (length a.input.now) (at_of a.from) (held_of a.from) (room_limit a.code.now)) e b).2 c.eval.ensures
 
 -- ## choice
 
@@ -50,7 +50,7 @@ choice-passed-back-requires t c = let a = c.args in
     let n = node (grammar_of (image_of a.code.now a.image.now)) a.a in
     let e = sym c.opened-first.ensures ∙ c.in-Failed.is in
     let l = c.requires.0 in
-    let b = subst (Bounds (length a.input.now) (atOf a.from) (heldOf a.from) (room_limit a.code.now)) e (bounds_of a.state n l c.eval-r.ensures) in
+    let b = subst (Bounds (length a.input.now) (at_of a.from) (held_of a.from) (room_limit a.code.now)) e (bounds_of a.state n l c.eval-r.ensures) in
     (omega (arith, c.at_of.ensures, l.place, l.short), omega (arith, c.held_of.ensures, l.room, l.small_room), b.0, b.1)
 
 pub choice-eval-requires : goal.choice-eval-requires
@@ -65,7 +65,7 @@ choice-returns t c = let a = c.args in
     let n = node (grammar_of (image_of a.code.now a.image.now)) a.a in
     let e = sym c.opened-first.ensures ∙ c.in-Failed.is in
     let h = has_passed_as c.passed-back.result c.passed-back.ensures c.at_of.ensures c.held_of.ensures in
-    else_go c.eval-r.ensures (λ σ s d. running a.code.now a.image.now a.input.now a.state a.left s d a.b (atOf a.from) σ) e
+    else_go c.eval-r.ensures (λ σ s d. running a.code.now a.image.now a.input.now a.state a.left s d a.b (at_of a.from) σ) e
     (as_parts h (λ p h s d. running a.code.now a.image.now a.input.now a.state a.left s d a.b p (symbols h c.eval-r.new.slots)) c.eval.ensures)
 
 -- ## star
@@ -75,12 +75,12 @@ star-passed-requires t c = let a = c.args in
     let l = c.loop-next.invariant.ready in
     let n = node (grammar_of (image_of a.code.now a.image.now)) a.a in
     let e = sym c.opened-round.ensures ∙ c.in-Failed.is in
-    let b = subst (Bounds (length a.input.now) (atOf c.loop-next.here) (heldOf c.loop-next.here) (room_limit a.code.now)) e (bounds_of a.state n l c.eval-r.ensures) in
+    let b = subst (Bounds (length a.input.now) (at_of c.loop-next.here) (held_of c.loop-next.here) (room_limit a.code.now)) e (bounds_of a.state n l c.eval-r.ensures) in
     (omega (arith, c.at_of-at.ensures, l.place, l.short), omega (arith, c.held_of.ensures, l.room, l.small_room), b.0, b.1)
 
 pub star-returns-in_default : goal.star-returns-in_default
 star-returns-in_default t c = let a = c.args in
-    star_ends a.code.now (image_of a.code.now a.image.now) a.input.now a.slots.now a.state a.left a.a (atOf a.from) (heldOf a.from) (steps_of a.from) (depth_of a.from) c.loop-next.invariant c.eval-r.ensures
+    star_ends a.code.now (image_of a.code.now a.image.now) a.input.now a.slots.now a.state a.left a.a (at_of a.from) (held_of a.from) (steps_of a.from) (depth_of a.from) c.loop-next.invariant c.eval-r.ensures
     c.in-Failed.spent c.in-Failed.deepest (sym c.opened-round.ensures ∙ c.in-Failed.is) (c.passed.ensures ∙ ap₂ (λ a h. Passed a h c.in-Failed.spent c.in-Failed.deepest) c.at_of-at.ensures c.held_of.ensures)
 
 pub star-refused-requires : goal.star-refused-requires
@@ -88,7 +88,7 @@ star-refused-requires t c = let a = c.args in
     let l = c.loop-next.invariant.ready in
     let n = node (grammar_of (image_of a.code.now a.image.now)) a.a in
     let e = sym c.opened-round.ensures ∙ c.in-Passed.is in
-    let b = subst (Bounds (length a.input.now) (atOf c.loop-next.here) (heldOf c.loop-next.here) (room_limit a.code.now)) e (bounds_of a.state n l c.eval-r.ensures) in
+    let b = subst (Bounds (length a.input.now) (at_of c.loop-next.here) (held_of c.loop-next.here) (room_limit a.code.now)) e (bounds_of a.state n l c.eval-r.ensures) in
     (omega arith, omega arith, omega (arith, c.at_of-at.ensures, l.place, l.short), b.4, b.5)
 
 pub star-refused-requires-then-code-spent : goal.star-refused-requires-then-code-spent
@@ -96,12 +96,12 @@ star-refused-requires-then-code-spent t c = let a = c.args in
     let l = c.loop-next.invariant.ready in
     let n = node (grammar_of (image_of a.code.now a.image.now)) a.a in
     let e = sym c.opened-round.ensures ∙ c.in-Passed.is in
-    let b = subst (Bounds (length a.input.now) (atOf c.loop-next.here) (heldOf c.loop-next.here) (room_limit a.code.now)) e (bounds_of a.state n l c.eval-r.ensures) in
+    let b = subst (Bounds (length a.input.now) (at_of c.loop-next.here) (held_of c.loop-next.here) (room_limit a.code.now)) e (bounds_of a.state n l c.eval-r.ensures) in
     (omega arith, omega arith, omega (arith, b.1, l.short), b.4, b.5)
 
 pub star-returns-then-code-spent : goal.star-returns-then-code-spent
 star-returns-then-code-spent t c = let a = c.args in
-    star_spent a.code.now (image_of a.code.now a.image.now) a.input.now a.slots.now a.state a.left a.a (atOf a.from) (heldOf a.from) (steps_of a.from) (depth_of a.from) c.loop-next.invariant c.eval-r.ensures
+    star_spent a.code.now (image_of a.code.now a.image.now) a.input.now a.slots.now a.state a.left a.a (at_of a.from) (held_of a.from) (steps_of a.from) (depth_of a.from) c.loop-next.invariant c.eval-r.ensures
     c.in-Passed.next c.in-Passed.more c.in-Passed.spent c.in-Passed.deepest (sym c.opened-round.ensures ∙ c.in-Passed.is) (omega (arith, c.if-next-at.false, c.at_of-at.ensures)) c.if-code-spent.true
     c.refused-then-code-spent.ensures
 
@@ -110,7 +110,7 @@ star-passed-here-requires t c = let a = c.args in
     let l = c.loop-next.invariant.ready in
     let n = node (grammar_of (image_of a.code.now a.image.now)) a.a in
     let e = sym c.opened-round.ensures ∙ c.in-Passed.is in
-    let b = subst (Bounds (length a.input.now) (atOf c.loop-next.here) (heldOf c.loop-next.here) (room_limit a.code.now)) e (bounds_of a.state n l c.eval-r.ensures) in
+    let b = subst (Bounds (length a.input.now) (at_of c.loop-next.here) (held_of c.loop-next.here) (room_limit a.code.now)) e (bounds_of a.state n l c.eval-r.ensures) in
     let t = c.entered-tally.ensures in (
       omega (arith, b.1, l.short),
       omega (arith, b.3, l.small_room),
@@ -123,16 +123,16 @@ star-loop-next-smaller t c = let a = c.args in
     let l = c.loop-next.invariant.ready in
     let n = node (grammar_of (image_of a.code.now a.image.now)) a.a in
     let e = sym c.opened-round.ensures ∙ c.in-Passed.is in
-    let b = subst (Bounds (length a.input.now) (atOf c.loop-next.here) (heldOf c.loop-next.here) (room_limit a.code.now)) e (bounds_of a.state n l c.eval-r.ensures) in
+    let b = subst (Bounds (length a.input.now) (at_of c.loop-next.here) (held_of c.loop-next.here) (room_limit a.code.now)) e (bounds_of a.state n l c.eval-r.ensures) in
     let h = has_passed c.passed-here.result c.passed-here.ensures in
     omega (arith, h.place, b.1, c.if-next-at.false, c.at_of-at.ensures)
 
 pub star-loop-next-preserved : goal.star-loop-next-preserved
 star-loop-next-preserved t c = let a = c.args in
-    rounds_from a.code.now (image_of a.code.now a.image.now) a.input.now a.slots.now a.state a.left a.a (atOf a.from) (heldOf a.from) (steps_of a.from) (depth_of a.from) (has_passed c.passed-here.result c.passed-here.ensures)
-    (subst (λ (t : Tally). Rounds a.code.now (image_of a.code.now a.image.now) a.input.now a.slots.now a.state a.left a.a (atOf a.from) (heldOf a.from) (steps_of a.from) (depth_of a.from) c.eval-r.new.slots c.in-Passed.next c.in-Passed.more t.steps t.depth)
+    rounds_from a.code.now (image_of a.code.now a.image.now) a.input.now a.slots.now a.state a.left a.a (at_of a.from) (held_of a.from) (steps_of a.from) (depth_of a.from) (has_passed c.passed-here.result c.passed-here.ensures)
+    (subst (λ (t : Tally). Rounds a.code.now (image_of a.code.now a.image.now) a.input.now a.slots.now a.state a.left a.a (at_of a.from) (held_of a.from) (steps_of a.from) (depth_of a.from) c.eval-r.new.slots c.in-Passed.next c.in-Passed.more t.steps t.depth)
     (sym (c.entered-tally.ensures ∙ later_round c.in-Passed.spent c.in-Passed.deepest))
-    (star_again a.code.now (image_of a.code.now a.image.now) a.input.now a.slots.now a.state a.left a.a (atOf a.from) (heldOf a.from) (steps_of a.from) (depth_of a.from) c.loop-next.invariant c.eval-r.ensures
+    (star_again a.code.now (image_of a.code.now a.image.now) a.input.now a.slots.now a.state a.left a.a (at_of a.from) (held_of a.from) (steps_of a.from) (depth_of a.from) c.loop-next.invariant c.eval-r.ensures
     c.in-Passed.next c.in-Passed.more c.in-Passed.spent c.in-Passed.deepest (sym c.opened-round.ensures ∙ c.in-Passed.is) (omega (arith, c.if-next-at.false, c.at_of-at.ensures)) c.if-code-spent.false c.requires.2))
 
 -- ## eval
@@ -225,7 +225,7 @@ module _ {t : ℕ} (k : inside-After-node_of-kind t) where
   starts = in_one next k.args.image.now (below entry)
 
   inner : (state : State) (n : ℕ) {after : List ℕ} {r : ℕ} → let a = k.args in
-      Done (heldOf now) a.slots.now after r (saying a.code.now a.image.now a.input.now state a.slots.now (a.left - 1) now n)
+      Done (held_of now) a.slots.now after r (saying a.code.now a.image.now a.input.now state a.slots.now (a.left - 1) now n)
       → Done held a.slots.now after r (running a.code.now a.image.now a.input.now state (a.left - 1) charged.steps charged.depth n at (symbols held a.slots.now))
   inner state n = let a = k.args in
       as_parts next (λ p h s d. running a.code.now a.image.now a.input.now state (a.left - 1) s d n p (symbols h a.slots.now))
@@ -233,7 +233,7 @@ module _ {t : ℕ} (k : inside-After-node_of-kind t) where
   -- What is said in its parts is said of the number that it started from.
   finish : {after : List ℕ} {r : ℕ} → let a = k.args in
       Done held a.slots.now after r (running a.code.now a.image.now a.input.now a.state a.left spent deepest a.node at (symbols held a.slots.now))
-      → Done (heldOf a.from) a.slots.now after r (saying a.code.now a.image.now a.input.now a.state a.slots.now a.left a.from a.node)
+      → Done (held_of a.from) a.slots.now after r (saying a.code.now a.image.now a.input.now a.state a.slots.now a.left a.from a.node)
   finish = let a = k.args in
       as_one has (λ p h s d. running a.code.now a.image.now a.input.now a.state a.left s d a.node p (symbols h a.slots.now))
 

@@ -1,7 +1,7 @@
 -- The cycle of the evaluator: what falls at each call. The depth left falls from inside to a member; eval hands it to inside, and a member to eval, as
 -- it is. And what holds where a round of a Star begins.
 use Rattle.std.proofs.Common.{◌+◌, ◌-◌, ◌*◌, length}
-use Rattle.parts.specs.Packed.{atOf, heldOf, steps_of, depth_of}
+use Rattle.parts.specs.Packed.{at_of, held_of, steps_of, depth_of}
 use Rattle.machine.specs.Ready.{image_of}
 use Rattle.machine.specs.StarLaws.{Rounds}
 use Rattle.machine.proofs.evaluate.+choice_eval_inside_sequence_star.Given as goal
@@ -23,8 +23,8 @@ decreases-star l = l.left * 3 + 2
 
 abbrev pub invariant-star-loop-next : goal.invariant-star-loop-next
 invariant-star-loop-next l =
-    Rounds l.code (image_of l.code l.image) l.input l.initial.slots l.state l.left l.a (atOf l.from) (heldOf l.from) (steps_of l.from) (depth_of l.from)
-    l.slots (atOf l.here) (heldOf l.here) (steps_of l.here) (depth_of l.here)
+    Rounds l.code (image_of l.code l.image) l.input l.initial.slots l.state l.left l.a (at_of l.from) (held_of l.from) (steps_of l.from) (depth_of l.from)
+    l.slots (at_of l.here) (held_of l.here) (steps_of l.here) (depth_of l.here)
 
 abbrev pub decreases-star-loop-next : goal.decreases-star-loop-next
-decreases-star-loop-next l = length l.input - atOf l.here
+decreases-star-loop-next l = length l.input - at_of l.here
