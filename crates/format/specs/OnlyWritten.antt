@@ -1,16 +1,16 @@
 -- What was read is what would be written: every part of an image that is read as good is the writing of something sound; and every
 -- refusal is one of 2 to 7, placed as `Refusal` says.
-use Rattle.std.specs.Prelude.{ℕ, zero, suc, ◌+◌, ◌≤◌, ◌<◌, ◌≡◌, refl, List, [], ◌∷◌, ◌++◌, leb, ltb, eqb, drop, take, length, get_or}
+use Rattle.std.specs.Prelude.{ℕ, zero, suc, ◌+◌, ◌≤◌, ◌<◌, ◌≡◌, refl, List, [], ◌∷◌, ◌++◌, leb, eqb, drop, take, length, get_or}
 use Rattle.std.proofs.Common.{ap, sym, subst₂, ◌∙◌, append_assoc, append-nil, arith, length-append, length-drop, take-add, length-take-le, get_or-drop, leb-true}
 use Rattle.std.proofs.Math.Seq.{take-append_seam}
 use Rattle.grammar.specs.Expr.{Expr, Empty, Byte, Range, Any, Text, Sequence, Choice, Star, Not, Call, Def, Match, Is, Isa, Exists, Block, Local, If, On}
 use Rattle.grammar.specs.Grammar.{Grammar}
 use Rattle.grammar.specs.Sound.{Bytes, Fits, Sound}
-use Rattle.format.specs.Reading.{Reading, got, fault, pick, ◌then◌}
+use Rattle.format.specs.Reading.{Reading, got, fault, ◌then◌}
 use Rattle.format.specs.ReadingLaws.{All, holds, stops, ◌▹◌, ◌▹'◌, pick_all}
-use Rattle.format.specs.Number.{groups, first, number_at}
-use Rattle.format.specs.NumberLaws.{Refusal, Wrote, groups_some, first_all}
-use Rattle.format.specs.Written.{written, numbers, bit, encode_node, encode}
+use Rattle.format.specs.Number.{groups}
+use Rattle.format.specs.NumberLaws.{Refusal, groups_some, first_all}
+use Rattle.format.specs.Written.{written, numbers, encode_node, encode}
 use Rattle.format.specs.Image.{inside, times, Head, bounded, raw, kinds, node_at, head_at, body_at}
 use Rattle.format.specs.ImageLaws.{EachFrom, nil, ◌&◌, each_at, zero_plus, numbers_snoc, inside_low, inside_high, bytes_take, bit_back}
 

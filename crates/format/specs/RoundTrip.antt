@@ -1,19 +1,19 @@
 -- The format as it is written and as it is read are one format. An image is good exactly if it is the writing of a sound
 -- grammar and short enough; so a good image has one meaning, and every sound grammar that fits has one image.
-use Rattle.std.specs.Prelude.{ℕ, ◌+◌, ◌≤◌, ◌<◌, ◌≡◌, refl, Bool, true, false, ◌↔◌, List, [], ◌∷◌, ◌++◌, ltb, eqb, drop, take, length}
+use Rattle.std.specs.Prelude.{ℕ, ◌+◌, ◌≤◌, ◌<◌, ◌≡◌, refl, Bool, true, false, ◌↔◌, List, ◌++◌, ltb, eqb, drop, take, length}
 use Rattle.std.proofs.Common.{ap, sym, ◌∙◌, arith, length-drop, take_all, get_or-drop, ltb-true, ltb-false, le-ltb, eqb-true}
 use Rattle.std.proofs.lemmas.Bool.{eqb-false}
 use Rattle.grammar.specs.Grammar.{Grammar}
 use Rattle.grammar.specs.Sound.{Bytes, Sound}
-use Rattle.format.specs.Reading.{Reading, got, fault, pick, ◌then◌}
+use Rattle.format.specs.Reading.{Reading, got, pick, ◌then◌}
 use Rattle.format.specs.ReadingLaws.{All, holds, stops, of_got}
 use Rattle.format.specs.Number.{groups, number_at}
 use Rattle.format.specs.NumberLaws.{Refusal, first_all, first_back}
 use Rattle.format.specs.Written.{encode}
 use Rattle.format.specs.Image.{head_at, body_at, Checked, good, refused, ended, read_image}
 use Rattle.format.specs.ImageLaws.{zero_plus}
-use Rattle.format.specs.OnlyWritten.{Front, front_on, Whole, body_all}
-use Rattle.format.specs.ReadBack.{Back, body_back}
+use Rattle.format.specs.OnlyWritten.{front_on, Whole, body_all}
+use Rattle.format.specs.ReadBack.{body_back}
 
 -- An image is this grammar's: the grammar is sound, its writing is the image, and the image is at most 16,384 bytes.
 pub record Stands (image : List ℕ) (g : Grammar) : Type 0 where
