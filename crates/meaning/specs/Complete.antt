@@ -1,7 +1,7 @@
 -- `complete`: a derivation within the limits is what the machine finds. `cut_complete`: a run that is cut short is what the machine
 -- gives.
-use Rattle.std.specs.Prelude.{ℕ, zero, suc, pred, ◌-◌, ◌≤◌, ◌≡◌, refl, List, length}
-use Rattle.std.proofs.Common.{ap, ◌∙◌, sym, arith, lt-ltb, le-ltb}
+use Rattle.std.specs.Prelude.{ℕ, suc, pred, ◌-◌, ◌≡◌, List, length}
+use Rattle.std.proofs.Common.{arith, lt-ltb, le-ltb}
 use Rattle.grammar.specs.Expr.{Expr, Star}
 use Rattle.grammar.specs.Grammar.{Grammar, node}
 use Rattle.meaning.specs.State.{State, Env}
@@ -10,7 +10,7 @@ use Rattle.meaning.specs.Cost.{Cost, enter, ◌⊕◌, holding}
 use Rattle.meaning.specs.Rules.{Derives, empty, byte, range, any, text, seq_first, seq_both, choice_first, choice_second, star_stop, star_more, not, call, def_fail, def_pass, match, is_none_lem, is_some, isa_none, isa_some, exists, block, local, if, on}
 use Rattle.meaning.specs.Limits.{Within}
 use Rattle.meaning.specs.Cut.{Cut, no_steps, no_depth, no_room, empty_round, cut_first, cut_second, cut_alternative, cut_other, cut_round, cut_later, cut_not, cut_call, cut_def, cut_is, cut_isa, cut_block, cut_local, cut_on}
-use Rattle.meaning.specs.Run.{Result, ran, refused, next, charge, after, round, entered, run}
+use Rattle.meaning.specs.Run.{ran, refused, next, charge, after, round, entered, run}
 use Rattle.meaning.specs.RunLaws.{entry, without_steps, without_depth, star_round}
 
 module _ (g : Grammar) (x : List ℕ) (r : ℕ) where

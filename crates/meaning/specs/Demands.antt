@@ -1,22 +1,21 @@
 -- The demands, stated over derivations, and proved of `recognise`.
-use Rattle.std.specs.Prelude.{ℕ, zero, suc, ◌+◌, ◌-◌, ◌*◌, ◌≤◌, ◌<◌, ◌≡◌, refl, Bool, true, false, ◌↔◌, ◌⊎◌, List, [], ◌∷◌, ◌++◌, leb, ltb, length, drop, replicate}
+use Rattle.std.specs.Prelude.{ℕ, ◌*◌, ◌≤◌, ◌<◌, ◌≡◌, refl, Bool, true, false, ◌↔◌, ◌⊎◌, List, [], leb, ltb, length, drop}
 use Rattle.std.proofs.Common.{ap, ◌∙◌, sym, inl, inr, arith}
 use borrow.Author.Tests.{le-leb, leb-true, le-ltb, lt-ltb, ltb-true, ltb-false}
 use Rattle.grammar.specs.Grammar.{Grammar, node}
 use Rattle.grammar.specs.Sound.{Bytes}
-use Rattle.format.specs.Reading.{pick}
 use Rattle.format.specs.Image.{Checked, good, refused, read_image}
 use Rattle.format.specs.RoundTrip as i
 use Rattle.meaning.specs.State.{State, outset}
-use Rattle.meaning.specs.Outcome.{Outcome, pass, fail, ◌and◌, pass_if, swap, restored, closed, matched, compared}
+use Rattle.meaning.specs.Outcome.{Outcome, pass, fail, ◌and◌}
 use Rattle.meaning.specs.Cost.{Cost}
 use Rattle.meaning.specs.Rules.{Derives}
 use Rattle.meaning.specs.Limits.{Within}
 use Rattle.meaning.specs.Cut.{Cut}
 use Rattle.meaning.specs.Kept.{kept}
 use Rattle.meaning.specs.Steps.{used, spent}
-use Rattle.meaning.specs.Run.{Result, ran, refused as stopped, rounds, run}
-use Rattle.meaning.specs.Recognise.{Answer, Called, answer_of, flat, filled, slots_after, refusal, from_start, between, allowed, on_good, on_image, recognise}
+use Rattle.meaning.specs.Run.{Result, ran, refused as stopped}
+use Rattle.meaning.specs.Recognise.{Answer, Called, answer_of, filled, slots_after, refusal, from_start, between, allowed, recognise}
 use Rattle.meaning.specs.Complete.{complete, cut_complete}
 use Rattle.meaning.specs.Exact.{exact, cut_exactly, raised, stop_number}
 use Rattle.meaning.specs.Unique.{true≢false}

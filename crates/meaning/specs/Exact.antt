@@ -2,7 +2,7 @@
 -- refuses exactly as the run that is cut short. `refused_exactly`: it refuses exactly if no derivation is within the limits.
 -- `raised`: raised limits alter no outcome. `at_most_one`: there is at most one outcome and cost.
 use Rattle.std.specs.Prelude.{ℕ, ◌≤◌, max, ◌≡◌, refl, List, ◌↔◌}
-use Rattle.std.proofs.Common.{ap, ◌∙◌, sym, arith}
+use Rattle.std.proofs.Common.{arith}
 use Rattle.grammar.specs.Expr.{Expr}
 use Rattle.grammar.specs.Grammar.{Grammar}
 use Rattle.meaning.specs.State.{State, Env}

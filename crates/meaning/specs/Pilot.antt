@@ -2,7 +2,7 @@
 -- last round or a look-ahead starts from the state before it, and a name that only an abandoned alternative defined is in no list
 -- afterwards.
 use Rattle.std.specs.Prelude.{ℕ, zero, suc, ◌≡◌, refl, Bool, true, false, ◌↔◌, ◌⊎◌, drop, get_or, eqb}
-use Rattle.std.proofs.Common.{ap, ◌∙◌, sym, subst, subst₂, inl, inr, arith}
+use Rattle.std.proofs.Common.{ap, sym, subst, subst₂, inl, inr, arith}
 use mathlib.Core.List.Memᴰ
 use mathlib.Core.List.{List, [], ◌∷◌, ◌++◌, reverse, reverse-cons, Memᴰ}
 use Rattle.grammar.specs.Expr.{Expr, Choice, Star, Not}

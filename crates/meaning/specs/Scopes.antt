@@ -4,13 +4,13 @@
 -- entering".
 use Rattle.std.specs.Prelude.{ℕ, zero, suc, ◌≤◌, ◌<◌, Bool, true, false, List, [], ◌∷◌, ◌++◌, reverse, eqb, length, drop, get_or, set}
 use Rattle.std.proofs.Math.Path.{◌≡◌, refl, ap, subst}
-use Rattle.std.proofs.Common.{◌∙◌, sym, append-nil, append_assoc, arith, length-append, length-set, drop_of_length-le, get_or-set_same, get_or-set_other, eq-eqb, ne_eqb, eqb-true}
+use Rattle.std.proofs.Common.{◌∙◌, sym, append-nil, arith, length-append, length-set, drop_of_length-le, get_or-set_same, get_or-set_other, ne_eqb, eqb-true}
 use Rattle.std.proofs.lemmas.List.{drop-append-le}
 use Rattle.std.proofs.Math.Seq.{drop-append_seam}
 use Rattle.std.proofs.lemmas.Bool.{eqb-false}
 use Rattle.grammar.specs.Expr.{Expr, Block, Local, On}
 use Rattle.grammar.specs.Grammar.{Grammar, node}
-use Rattle.meaning.specs.State.{Symbol, State, Env, outset, of_table, others, visible, hide, switch}
+use Rattle.meaning.specs.State.{State, Env, outset, of_table, others, visible, hide, switch}
 use Rattle.meaning.specs.Outcome.{Outcome, pass, fail, closed, restored}
 use Rattle.meaning.specs.Cost.{Cost}
 use Rattle.meaning.specs.Rules.{Derives, block, local, on}
