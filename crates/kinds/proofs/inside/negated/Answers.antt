@@ -1,11 +1,8 @@
 -- `negated` meets its promise. Assumes nothing.
-use mathlib.Core.Path.{◌≡◌, refl, ap, sym, ◌∙◌, subst}
-use native.Mathlib.Omega.{arith}
-use mathlib.Core.Logic.{inr}
+use mathlib.Core.Path.{ap, sym, ◌∙◌, subst}
 use Rattle.kinds.specs.Turned.{Bounds, negated_of}
 use Rattle.kinds.specs.TurnedLaws.{Stops, Stays, negated_stops}
 use Rattle.kinds.proofs.OutcomeLaws.{stops, stays}
-use borrow.Author.Rules.{rules}
 use Rattle.kinds.proofs.inside.negated.Goals as goal
 
 pub failed-requires : goal.failed-requires

@@ -1,10 +1,8 @@
 -- `restored` meets its promise. Assumes nothing.
-use mathlib.Core.Path.{◌≡◌, refl, ap, sym, ◌∙◌, subst}
-use native.Mathlib.Omega.{arith}
+use mathlib.Core.Path.{ap, sym, ◌∙◌, subst}
 use Rattle.kinds.specs.Turned.{Bounds, restored_of}
 use Rattle.kinds.specs.TurnedLaws.{Stops, restored_stops}
 use Rattle.kinds.proofs.OutcomeLaws.{stops}
-use borrow.Author.Rules.{rules}
 use Rattle.kinds.proofs.inside.restored.Goals as goal
 
 pub returns-in_default : goal.returns-in_default
