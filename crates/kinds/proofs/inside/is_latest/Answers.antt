@@ -17,7 +17,7 @@ returns-in_default c = let o = c.opened-inner in
 pub is_symbol-ok-requires : goal.is_symbol-ok-requires
 is_symbol-ok-requires c = let a = c.args in
     let b = subst (Bounds (length a.input.now) a.at 0 256) (sym c.opened-inner.ensures ∙ c.in-Passed.is) c.requires.5 in
-    (c.requires.1, c.requires.2, c.requires.3, b.0, b.1)
+    (c.requires.1, c.requires.2, c.requires.3, omega (arith, b.0), b.1)
 
 pub given-requires : goal.given-requires
 given-requires c = let a = c.args in
