@@ -5,7 +5,7 @@ use borrow.Author.Tests.{le-leb, leb-true, le-ltb, lt-ltb, ltb-true, ltb-false}
 use Rattle.grammar.specs.Grammar.{Grammar, node}
 use Rattle.grammar.specs.Sound.{Bytes}
 use Rattle.format.specs.Image.{Checked, good, refused, read_image}
-use Rattle.format.specs.RoundTrip as i
+use Rattle.format.proofs.RoundTrip as i
 use Rattle.meaning.specs.State.{State, outset}
 use Rattle.meaning.specs.Outcome.{Outcome, pass, fail, ◌and◌}
 use Rattle.meaning.specs.Cost.{Cost}

@@ -5,6 +5,7 @@ use Rattle.grammar.specs.Grammar.{Grammar, node}
 use Rattle.grammar.specs.Sound.{Bytes}
 use Rattle.format.specs.Image.{Checked, good, refused, read_image}
 use Rattle.format.specs.RoundTrip as round
+use Rattle.format.proofs.RoundTrip as round_proved
 use Rattle.image.specs.Filled.{Loads}
 use Rattle.image.specs.Meant.{answered, verdict}
 use Rattle.image.specs.declared.walk.Verdict.{Verdict as Said}
@@ -37,12 +38,12 @@ module _ (image : List ℕ) (bytes : Bytes image) where
   pub checks : {r : Verdict} → r ≡ verdict_of (read_image image) → Checks image r
   checks {r} e = record {
     is = e;
-    good = ((λ h. stands (read_image image) refl (sym e ∙ h)), λ h. e ∙ ap verdict_of ((round.exact image bytes h.0).1 h.1));
-    refused = λ n p h. round.refusal image bytes n p (faulty (read_image image) (sym e ∙ h));
+    good = ((λ h. stands (read_image image) refl (sym e ∙ h)), λ h. e ∙ ap verdict_of ((round_proved.exact image bytes h.0).1 h.1));
+    refused = λ n p h. round_proved.refusal image bytes n p (faulty (read_image image) (sym e ∙ h));
   }
     where
       stands : (k : Checked) → read_image image ≡ k → verdict_of k ≡ Good → (g : Grammar) × round.Stands image g
-      stands (good g) q h = (g, (round.exact image bytes g).0 q)
+      stands (good g) q h = (g, (round_proved.exact image bytes g).0 q)
       stands (refused n p) q h = let z : ◌≡◌ {A = ℕ} 0 1 = cc in absurd (omega arith)
 
       faulty : (k : Checked) {n p : ℕ} → verdict_of k ≡ Faulty n p → k ≡ refused n p
@@ -55,11 +56,11 @@ module _ (image : List ℕ) (bytes : Bytes image) where
     where
       go : (k : Checked) → read_image image ≡ k → (verdict k).number ≡ 0 → Good ≡ verdict_of k
       go (good g) q h = refl
-      go (refused n p) q h = absurd (omega (arith, (round.refusal image bytes n p q).least))
+      go (refused n p) q h = absurd (omega (arith, (round_proved.refusal image bytes n p q).least))
 
   -- The place of a fault fits 32 bits.
   pub fault_small : {n p : ℕ} → read_image image ≡ refused n p → p ≤ 16384
-  fault_small {n} {p} e = (round.refusal image bytes n p e).small
+  fault_small {n} {p} e = (round_proved.refusal image bytes n p e).small
 
 pub is_faulty : (k : Checked) {v : Said} → v ≡ verdict k → (v.number ≡ 0 → ⊥) → Faulty v.number v.place ≡ verdict_of k
 is_faulty (good g) e f = absurd (f (ap (λ v. v.number) e))
@@ -183,7 +184,7 @@ module _ {image : List ℕ} {g : Grammar} (e : read_image image ≡ good g) (byt
 
   coded : Coded image limited g
   coded =
-      let s = ((round.exact image bytes g).0 e).sound in
+      let s = ((round_proved.exact image bytes g).0 e).sound in
       record {
         sound = s;
         nodes = λ n h. ap (λ w. expr_of image (node_of w)) (unlimited n (omega (arith, s.few_nodes))) ∙ loads.nodes g e n h;
@@ -198,7 +199,7 @@ module _ {image : List ℕ} {g : Grammar} (e : read_image image ≡ good g) (byt
         let q = sym (grammar_is image g e) in
         record {
           counted = count_set;
-          small = ((round.exact image bytes g).0 e).short;
+          small = ((round_proved.exact image bytes g).0 e).short;
           bytes = only;
           coded = subst (Coded image limited) q coded;
           begins = h ∙ ap (λ g. g.start) q;
