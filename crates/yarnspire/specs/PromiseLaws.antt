@@ -15,13 +15,14 @@ use Rattle.image.specs.declared.walk.Loaded.{Loaded}
 use Rattle.image.specs.declared.walk.Loaded.TheVariants.{Good as Whole, Refused as Bad}
 use Rattle.meaning.specs.State.{outset}
 use Rattle.meaning.specs.Unique.{true≢false}
-use Rattle.meaning.specs.Exact.{exact, cut_exactly, at_most_one}
+use Rattle.meaning.proofs.Exact.{exact, cut_exactly, at_most_one}
 use Rattle.meaning.specs.Outcome.{pass, fail}
 use Rattle.meaning.specs.Cost.{Cost}
 use Rattle.meaning.specs.Run.{Result, ran, refused as stopped}
 use Rattle.meaning.specs.Forward.{forward, ahead_pass}
 use Rattle.meaning.specs.Recognise.{Answer, allowed, answer_of, refusal, slots_after, from_start, recognise}
 use Rattle.meaning.specs.Demands as d
+use Rattle.meaning.proofs.Demands as d_proved
 use Rattle.machine.specs.Ready.{of_checked, grammar_of, step_limit, depth_limit, room_limit, Coded}
 use Rattle.yarnspire.specs.declared.answer.Verdict.{Verdict}
 use Rattle.yarnspire.specs.declared.answer.Verdict.TheVariants.{Good, Refused as Faulty}
@@ -95,14 +96,14 @@ pub answers : {image input : List ℕ} {B D R : ℕ} {before after : List ℕ} {
     → record { answer = a; slots = after } ≡ recognise image input B D R before → Answers image input B D R before after a
 answers {image} {input} {B} {D} {R} {before} {after} {a} bytes e = record {
   is = e;
-  kind = subst (λ k. Kind k.answer.kind) (sym e) (d.kinds image input B D R before bytes);
-  inside = subst (λ k. k.answer.consumed ≤ length input) (sym e) (inside (d.answered image input B D R before bytes));
-  entry = entry (d.answered image input B D R before bytes);
+  kind = subst (λ k. Kind k.answer.kind) (sym e) (d_proved.kinds image input B D R before bytes);
+  inside = subst (λ k. k.answer.consumed ≤ length input) (sym e) (inside (d_proved.answered image input B D R before bytes));
+  entry = entry (d_proved.answered image input B D R before bytes);
   once = λ g. at_most_one g input outset (node g g.start) 0 [];
   ends = λ g. ends_start g input B D R (from_start g input B D R) refl;
-  fixed = λ g E. subst (d.Fixed g input B D R before) (sym e) (d.fixed E);
-  demand_2 = λ g E. subst (λ k. d.Demand2 g input B D R k.answer) (sym e) (d.demand_2 E);
-  demand_3 = λ g E. subst (λ k. d.Demand3 g input B D R k.answer before k.slots) (sym e) (d.demand_3 E);
+  fixed = λ g E. subst (d.Fixed g input B D R before) (sym e) (d_proved.fixed E);
+  demand_2 = λ g E. subst (λ k. d.Demand2 g input B D R k.answer) (sym e) (d_proved.demand_2 E);
+  demand_3 = λ g E. subst (λ k. d.Demand3 g input B D R k.answer before k.slots) (sym e) (d_proved.demand_3 E);
 }
   where
     Said : Type 0
@@ -110,7 +111,7 @@ answers {image} {input} {B} {D} {R} {before} {after} {a} bytes e = record {
         ⊎ ((n place : ℕ) × (1 ≤ n) × (n ≤ 11) × (recognise image input B D R before ≡ refusal n place before))
 
     inside : Said → (recognise image input B D R before).answer.consumed ≤ length input
-    inside (inl h) = rw (d.runs h.1) (inside_start h.0 input B D R (from_start h.0 input B D R) refl)
+    inside (inl h) = rw (d_proved.runs h.1) (inside_start h.0 input B D R (from_start h.0 input B D R) refl)
     inside (inr h) = rw h.4 (omega arith)
 
     entry : Said → ((g : Grammar) × d.Entered image g input B D R before)
@@ -218,6 +219,6 @@ module _ {image : List ℕ} {g : Grammar} (e : read_image image ≡ good g) (byt
         let left : after ++ drop (R * 3) slots ≡ slots_after R X slots = ap (λ l. l ++ drop (R * 3) slots) (left_here.leaves ∙ ap (λ n. left_by n (result_of limited image input)) room_set ∙ ap (left_by R) is_run)
         ∙ ap (λ n. left_by R X ++ drop n slots) three ∙ left_and_rest R X slots in
         record {
-          answers = answers bytes ((λ i. record { answer = (left_here.answers ∙ ap answer_of is_run) i; slots = left i }) ∙ sym (d.runs E));
+          answers = answers bytes ((λ i. record { answer = (left_here.answers ∙ ap answer_of is_run) i; slots = left i }) ∙ sym (d_proved.runs E));
           listed = left_here.listed;
         }

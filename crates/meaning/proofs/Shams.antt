@@ -7,7 +7,8 @@ use Rattle.meaning.specs.State.{State}
 use Rattle.meaning.specs.Outcome.{pass}
 use Rattle.meaning.specs.Kept.{kept}
 use Rattle.meaning.specs.Recognise.{Answer, Called, filled, recognise}
-use Rattle.meaning.specs.Demands.{Entered, Accepts, Demand2, Demand3, demand_2, demand_3}
+use Rattle.meaning.specs.Demands.{Entered, Accepts, Demand2, Demand3}
+use Rattle.meaning.proofs.Demands.{demand_2, demand_3}
 
 -- `A=A` and `AB=AB` against image H, with limits that are just enough.
 abbrev one : List ℕ
