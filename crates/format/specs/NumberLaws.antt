@@ -1,11 +1,11 @@
 -- What was read as a number is how that number is written, and what is written is read back.
-use Rattle.std.specs.Prelude.{ℕ, suc, ◌+◌, ◌-◌, ◌*◌, ◌/◌, ◌%◌, ◌<◌, ◌≤◌, ◌≡◌, refl, Bool, true, false, List, [], ◌∷◌, ◌++◌, ltb, eqb, drop, length, get_or}
+use Rattle.std.specs.Prelude.{ℕ, suc, ◌+◌, ◌-◌, ◌*◌, ◌/◌, ◌%◌, ◌<◌, ◌≤◌, ◌≡◌, refl, Bool, true, false, List, [], ◌∷◌, ◌++◌, ltb, eqb, length}
 use Rattle.std.proofs.Common.{ap, sym, ◌∙◌, arith, div-add-mod', mod-lt, ltb-true, ltb-false, lt-ltb, le-ltb, ne_eqb}
 use Rattle.std.proofs.lemmas.Bool.{eqb-false}
 use Rattle.grammar.specs.Sound.{Bytes}
-use Rattle.format.specs.Reading.{Reading, got, fault, pick}
+use Rattle.format.specs.Reading.{got, fault, pick}
 use Rattle.format.specs.ReadingLaws.{All, holds, stops, pick_all}
-use Rattle.format.specs.Number.{two_groups, groups, third, second, first, number_at}
+use Rattle.format.specs.Number.{two_groups, groups, third, second, first}
 
 -- A refusal before the end of an image that is not too long: one of 2 to 7. A cut is placed at the image's end, a wrong edition at 0, and every
 -- refusal but a cut at a byte of the image.

@@ -1,18 +1,18 @@
 -- What was read is what would be written: every part of an image that is read as good is the writing of something sound; and every
--- refusal is one of 2 to 7, placed as `Refusal` says.
-use Rattle.std.specs.Prelude.{ℕ, zero, suc, ◌+◌, ◌≤◌, ◌<◌, ◌≡◌, refl, List, [], ◌∷◌, ◌++◌, leb, ltb, eqb, drop, take, length, get_or}
-use Rattle.std.proofs.Common.{ap, sym, subst₂, ◌∙◌, append_assoc, append-nil, arith, length-append, length-drop, take-add, length-take-le, get_or-drop, leb-true}
+-- refusal is one of 2 to 7, placed as `Refusal` says. Here up to the kinds of a node; for a node and for the whole, proofs/OnlyWritten.antt.
+use Rattle.std.specs.Prelude.{ℕ, zero, suc, ◌+◌, ◌≤◌, ◌<◌, ◌≡◌, refl, List, [], ◌∷◌, ◌++◌, leb, eqb, drop, take, length}
+use Rattle.std.proofs.Common.{ap, ◌∙◌, append_assoc, append-nil, arith, length-append, length-drop, take-add, length-take-le, get_or-drop, leb-true}
 use Rattle.std.proofs.Math.Seq.{take-append_seam}
 use Rattle.grammar.specs.Expr.{Expr, Empty, Byte, Range, Any, Text, Sequence, Choice, Star, Not, Call, Def, Match, Is, Isa, Exists, Block, Local, If, On}
 use Rattle.grammar.specs.Grammar.{Grammar}
 use Rattle.grammar.specs.Sound.{Bytes, Fits, Sound}
-use Rattle.format.specs.Reading.{Reading, got, fault, pick, ◌then◌}
+use Rattle.format.specs.Reading.{Reading, got}
 use Rattle.format.specs.ReadingLaws.{All, holds, stops, ◌▹◌, ◌▹'◌, pick_all}
-use Rattle.format.specs.Number.{groups, first, number_at}
-use Rattle.format.specs.NumberLaws.{Refusal, Wrote, groups_some, first_all}
-use Rattle.format.specs.Written.{written, numbers, bit, encode_node, encode}
-use Rattle.format.specs.Image.{inside, times, Head, bounded, raw, kinds, node_at, head_at, body_at}
-use Rattle.format.specs.ImageLaws.{EachFrom, nil, ◌&◌, each_at, zero_plus, numbers_snoc, inside_low, inside_high, bytes_take, bit_back}
+use Rattle.format.specs.Number.{groups}
+use Rattle.format.specs.NumberLaws.{Refusal, groups_some, first_all}
+use Rattle.format.specs.Written.{written, numbers, encode_node, encode}
+use Rattle.format.specs.Image.{inside, times, Head, bounded, raw, kinds, head_at}
+use Rattle.format.specs.ImageLaws.{EachFrom, nil, ◌&◌, numbers_snoc, inside_low, inside_high, bytes_take, bit_back}
 
 module _ (image : List ℕ) where
   -- The bytes before the place `at` are v.
@@ -27,10 +27,10 @@ module _ (image : List ℕ) where
   }
 
   -- The bytes before a place are u and then these numbers.
-  record Upto (u ns : List ℕ) (at : ℕ) : Type 0 where
+  pub record Upto (u ns : List ℕ) (at : ℕ) : Type 0 where
     pub here : Front (u ++ numbers ns) at
 
-  record Number (low stop : ℕ) (u ns : List ℕ) (n next : ℕ) : Type 0 where
+  pub record Number (low stop : ℕ) (u ns : List ℕ) (n next : ℕ) : Type 0 where
     pub least : low ≤ n
     pub under : n < stop
     pub on : Upto u (ns ++ (n ∷ [])) next
@@ -67,7 +67,7 @@ module _ (image : List ℕ) where
     abbrev Reason : ℕ → ℕ → Type 0
     Reason why at = (4 ≤ why) × (why ≤ 7) × (why ≡ 4 → at ≡ 0)
 
-    number_all :
+    pub number_all :
         (why low stop : ℕ) {u ns : List ℕ} {at : ℕ} → Reason why at → Upto u ns at
         → All (Number low stop u ns) Stop (bounded image why low stop at)
     number_all why low stop {u} {ns} {at} reason f =
@@ -98,7 +98,7 @@ module _ (image : List ℕ) where
     operand : (low stop : ℕ) {u ns : List ℕ} {at : ℕ} → Upto u ns at → All (Number low stop u ns) Stop (bounded image 7 low stop at)
     operand low stop f = number_all 7 low stop (omega arith) f
 
-    start : {u : List ℕ} {at : ℕ} → Front u at → Upto u [] at
+    pub start : {u : List ℕ} {at : ℕ} → Front u at → Upto u [] at
     start {u} f = record { here = rw (append-nil u) f }
 
     raw_all : (k : ℕ) {v : List ℕ} {at : ℕ} → Front v at → All (Raw k v) Stop (raw image k at)
@@ -120,7 +120,7 @@ module _ (image : List ℕ) where
 
     module _ (T C N own : ℕ) where
       -- The operands of a kind, its tag having been read.
-      abbrev Kind : ℕ → (ℕ → Reading Expr) → Type 0
+      abbrev pub Kind : ℕ → (ℕ → Reading Expr) → Type 0
       Kind tag p = (u : List ℕ) (at : ℕ) → Upto u (tag ∷ []) at → All (One (Fits T C N own) encode_node u) Stop (p at)
 
       done :
@@ -134,7 +134,7 @@ module _ (image : List ℕ) where
       text {u} k x at r s = done (Text x) (rw s.long r.least, rw s.long (up_to 64 r.under), s.small)
           (rw (s.long, ← (append_assoc u (numbers (4 ∷ k ∷ [])) x)) s.on)
 
-      kinds_all : EachFrom Kind 0 (kinds image T C N own)
+      pub kinds_all : EachFrom Kind 0 (kinds image T C N own)
       kinds_all =
           (λ u at f. done Empty tt f.here)
           & (λ u at f. operand 0 256 f ▹ λ b at r. done (Byte b) (up_to 255 r.under) r.on.here)
@@ -160,11 +160,6 @@ module _ (image : List ℕ) where
           & (λ u at f. operand 0 C f ▹ λ c at r. operand 0 2 r.on ▹ λ w at s. operand 0 own s.on ▹ λ a at q.
           done (On c (eqb w 1) a) {at = at} (r.under, q.under) (rw (bit_back w s.under) q.on.here))
           & nil
-
-      pub node_all : {u : List ℕ} {at : ℕ} → Front u at → All (One (Fits T C N own) encode_node u) Stop (node_at image T C N own at)
-      node_all {u} {at} f =
-          number_all 6 0 19 (omega arith) (start f) ▹ λ tag at r. each_at Kind (fault 6) (kinds image T C N own) 0 tag kinds_all
-          r.under u at (rw (zero_plus tag) r.on)
 
     pub pattern_all : (N i at : ℕ) (u : List ℕ) → Front u at → All (One (λ a. a < N) groups u) Stop (bounded image 7 0 N at)
     pattern_all N i at u f =
@@ -205,23 +200,3 @@ module _ (image : List ℕ) where
     pub record Whole (g : Grammar) (next : ℕ) : Type 0 where
       pub sound : Sound g
       pub on : Front (encode g) next
-
-    pub body_all : All Whole Stop (head_at image then body_at image)
-    body_all = head_all ▹ λ h at r.
-        times_all (λ i a. a < h.nodes) groups (λ i. bounded image 7 0 h.nodes) (pattern_all h.nodes) 0 h.tables _ at r.on
-        ▹ λ ps at p.
-        times_all (Fits h.tables h.conditions h.nodes) encode_node (node_at image h.tables h.conditions h.nodes)
-        (λ i at u f. node_all h.tables h.conditions h.nodes i f) 0 h.nodes _ at p.on ▹ λ es at q.
-        holds (record {
-          sound = record {
-            few_tables = rw p.count r.few_tables;
-            few_conditions = r.few_conditions;
-            some_node = rw q.count r.some_node;
-            few_nodes = rw q.count r.few_nodes;
-            start_named = rw q.count r.start_named;
-            patterns_named = λ t l. rw q.count (each_at (λ i a. a < h.nodes) 0 ps 0 t p.fits l);
-            operands_fit = λ n l. subst₂ (λ T N. Fits T h.conditions N n (get_or es n Empty)) (sym p.count) (sym q.count)
-                (rw (zero_plus n) at (each_at (Fits h.tables h.conditions h.nodes) Empty es 0 n q.fits l));
-          };
-          on = rw (p.count, q.count) q.on;
-        })

@@ -1,5 +1,5 @@
 -- Laws of readings: what holds of every part of a reading holds of the whole.
-use Rattle.std.specs.Prelude.{ℕ, ◌≤◌, ◌≡◌, refl, Bool, true, false}
+use Rattle.std.specs.Prelude.{ℕ, ◌≡◌, refl, Bool, true, false}
 use Rattle.std.proofs.Common.{ap}
 use Rattle.format.specs.Reading.{Reading, got, fault, pick, ◌then◌}
 

@@ -9,7 +9,7 @@ use Rattle.image.specs.declared.walk.Loaded.{Loaded}
 use Rattle.image.specs.declared.walk.Loaded.TheVariants.{Good, Refused}
 use Rattle.image.specs.declared.walk.Verdict.{Verdict}
 use Rattle.format.specs.Image.{Checked, good, refused, read_image}
-use Rattle.format.specs.RoundTrip.{refusal}
+use Rattle.format.proofs.RoundTrip.{refusal}
 use Rattle.image.specs.Meant.{answered, verdict}
 
 abbrev zeros : Verdict

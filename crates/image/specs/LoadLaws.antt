@@ -12,7 +12,8 @@ use Rattle.format.specs.NumberLaws.{Refusal}
 use Rattle.format.specs.Number.{groups}
 use Rattle.format.specs.Written.{numbers, encode_node}
 use Rattle.format.specs.Image.{times, Head, bounded, node_at, head_at, patterns_at, nodes_at, body_at, good, refused, ended, read_image}
-use Rattle.format.specs.OnlyWritten.{Front, One, Many, HeadRead, node_all, pattern_all, times_all, head_all}
+use Rattle.format.specs.OnlyWritten.{Front, One, Many, HeadRead, pattern_all, times_all, head_all}
+use Rattle.format.proofs.OnlyWritten.{node_all}
 use Rattle.image.specs.Word.{kept, keep, word_at}
 use Rattle.image.specs.Node.{node_of, expr_of, InImage}
 use Rattle.image.specs.NodeLaws.{EndAt, Placed, kept_back, kept_inside}

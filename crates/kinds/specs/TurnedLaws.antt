@@ -1,5 +1,5 @@
 -- Laws of what the kinds make of an outcome.
-use Rattle.std.specs.Prelude.{ℕ, ◌+◌, ◌-◌, ◌*◌, ◌≤◌, ◌<◌, ◌≡◌, refl, Bool, true, false, List, length, drop}
+use Rattle.std.specs.Prelude.{ℕ, ◌+◌, ◌-◌, ◌*◌, ◌≤◌, ◌<◌, ◌≡◌, refl, Bool, List, length, drop}
 use Rattle.std.proofs.Common.{ap, sym, ◌∙◌, subst, arith, length-take, length-drop, lt-ltb, le-ltb}
 use Rattle.format.specs.Reading.{pick}
 use Rattle.meaning.specs.State.{Symbol}

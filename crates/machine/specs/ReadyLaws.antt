@@ -12,10 +12,10 @@ use Rattle.meaning.specs.State.{Symbol, State as Symbols, Env}
 use Rattle.meaning.specs.Outcome.{pass, fail}
 use Rattle.meaning.specs.Kept.{kept}
 use Rattle.meaning.specs.Run.{Result, ran, refused, run}
-use Rattle.meaning.specs.Exact.{exact}
+use Rattle.meaning.proofs.Exact.{exact}
 use Rattle.meaning.specs.Forward.{forward, ahead_pass}
-use Rattle.meaning.specs.Remain.{remain, ends_eq}
-use Rattle.meaning.specs.Room.{room_enough, of_pass}
+use Rattle.meaning.proofs.Remain.{remain, ends_eq}
+use Rattle.meaning.proofs.Room.{room_enough, of_pass}
 use Rattle.meaning.specs.Inside.{Part, kept_inside}
 use Rattle.parts.specs.declared.outcome.Outcome.{Outcome}
 use Rattle.parts.specs.declared.outcome.Outcome.TheVariants.{Passed, Failed, Refused}

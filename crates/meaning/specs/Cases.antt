@@ -3,7 +3,7 @@
 -- shows that nothing past 3R is written. What 01 leaves out of a row is worked out from the rules.
 use Rattle.std.specs.Prelude.{ℕ, ◌+◌, ◌-◌, ◌*◌, ◌≡◌, refl, List, [], ◌∷◌, ◌++◌, map, length, replicate}
 use Rattle.format.specs.Cases.{harbour}
-use Rattle.meaning.specs.Recognise.{Answer, Called, recognise}
+use Rattle.meaning.specs.Recognise.{Called, recognise}
 
 pub record Case : Type 0 where
   pub image : List ℕ

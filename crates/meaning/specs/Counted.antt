@@ -1,5 +1,4 @@
--- `counted`: the steps of a derivation's cost are its own steps, counted by a function that knows nothing of costs. `spent_counted`: the
--- same of a run that is cut short.
+-- `counted`: the steps of a derivation's cost are its own steps, counted by a function that knows nothing of costs.
 use Prim.Native.Nat.{ℕ, suc}
 use Rattle.std.specs.Prelude.{◌≡◌, List}
 use Rattle.std.proofs.Math.Path.{refl, ap}
@@ -10,8 +9,7 @@ use Rattle.meaning.specs.State.{State, Env}
 use Rattle.meaning.specs.Outcome.{Outcome}
 use Rattle.meaning.specs.Cost.{Cost}
 use Rattle.meaning.specs.Rules.{Derives, empty, byte, range, any, text, seq_first, seq_both, choice_first, choice_second, star_stop, star_more, not, call, def_fail, def_pass, match, is_none_lem, is_some, isa_none, isa_some, exists, block, local, if, on}
-use Rattle.meaning.specs.Cut.{Cut, no_steps, no_depth, no_room, empty_round, cut_first, cut_second, cut_alternative, cut_other, cut_round, cut_later, cut_not, cut_call, cut_def, cut_is, cut_isa, cut_block, cut_local, cut_on}
-use Rattle.meaning.specs.Steps.{used, spent}
+use Rattle.meaning.specs.Steps.{used}
 
 module _ (g : Grammar) (x : List ℕ) where
   pub counted : {v : Env} {e : Expr} {p : ℕ} {σ : State} {o : Outcome} {c : Cost} (D : Derives g x v e p σ o c) → used g x D ≡ c.steps
@@ -41,25 +39,3 @@ module _ (g : Grammar) (x : List ℕ) where
   counted (local D) = ap suc (counted D)
   counted if = refl
   counted (on D) = ap suc (counted D)
-
-  pub spent_counted :
-      {r d b : ℕ} {v : Env} {e : Expr} {p : ℕ} {σ : State} {n s : ℕ} {c : Cost} (K : Cut g x r d b v e p σ n s c) → spent g x K ≡ c.steps
-  unfolding spent
-  spent_counted no_steps = refl
-  spent_counted no_depth = refl
-  spent_counted (no_room D w h) = ap suc (counted D)
-  spent_counted (empty_round D w h) = ap suc (counted D)
-  spent_counted (cut_first K) = ap suc (spent_counted K)
-  spent_counted (cut_second D w K) = omega (arith, counted D, spent_counted K)
-  spent_counted (cut_alternative K) = ap suc (spent_counted K)
-  spent_counted (cut_other D w K) = omega (arith, counted D, spent_counted K)
-  spent_counted (cut_round K) = ap suc (spent_counted K)
-  spent_counted (cut_later D w h K) = omega (arith, counted D, spent_counted K)
-  spent_counted (cut_not K) = ap suc (spent_counted K)
-  spent_counted (cut_call K) = ap suc (spent_counted K)
-  spent_counted (cut_def K) = ap suc (spent_counted K)
-  spent_counted (cut_is h K) = ap suc (spent_counted K)
-  spent_counted (cut_isa h K) = ap suc (spent_counted K)
-  spent_counted (cut_block K) = ap suc (spent_counted K)
-  spent_counted (cut_local K) = ap suc (spent_counted K)
-  spent_counted (cut_on K) = ap suc (spent_counted K)

@@ -1,9 +1,9 @@
 -- Runs that are cut short: one rule for each way in which a rule of Rules.antt is stopped. 01, "Steps, depth, room" and refusals 12 to 15.
-use Rattle.std.specs.Prelude.{ℕ, zero, suc, ◌-◌, ◌≤◌, ◌<◌, ◌≡◌, Bool, true, List, length}
+use Rattle.std.specs.Prelude.{ℕ, suc, ◌-◌, ◌≤◌, ◌<◌, ◌≡◌, Bool, true, List, length}
 use Rattle.grammar.specs.Expr.{Expr, Sequence, Choice, Star, Not, Call, Def, Is, Isa, Block, Local, On}
 use Rattle.grammar.specs.Grammar.{Grammar, node}
 use Rattle.meaning.specs.State.{State, Env, visible, hide, switch}
-use Rattle.meaning.specs.Outcome.{Outcome, pass, fail, some}
+use Rattle.meaning.specs.Outcome.{pass, fail, some}
 use Rattle.meaning.specs.Cost.{Cost, nothing, enter, ◌⊕◌}
 use Rattle.meaning.specs.Rules.{Derives, named}
 use Rattle.meaning.specs.Limits.{Within}

@@ -1,5 +1,5 @@
 -- `forward`: a pass ends between its start and the end of the input.
-use Rattle.std.specs.Prelude.{ℕ, suc, ◌+◌, ◌-◌, ◌≤◌, ◌≡◌, refl, Bool, true, false, eqb, length, take, drop}
+use Rattle.std.specs.Prelude.{ℕ, suc, ◌+◌, ◌≤◌, ◌≡◌, refl, Bool, true, false, eqb, length, take, drop}
 use Rattle.std.proofs.Common.{ap, le_refl, le_trans, arith, length-take, length-drop}
 use mathlib.Core.List.{List, [], ◌∷◌}
 use Rattle.grammar.specs.Expr.{Expr}

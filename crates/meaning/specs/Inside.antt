@@ -1,17 +1,17 @@
 -- `kept_inside`: the symbols that remain of a derivation are parts of the input. `cut_costs`: what a run that is cut short has charged is within
 -- the limits, and reaches the one that stopped it.
-use Rattle.std.specs.Prelude.{ℕ, suc, ◌+◌, ◌-◌, ◌≤◌, ◌<◌, max, ◌≡◌, refl, ◌⊎◌, length}
+use Rattle.std.specs.Prelude.{ℕ, suc, ◌-◌, ◌≤◌, ◌≡◌, ◌⊎◌, length}
 use Rattle.std.proofs.Common.{ap, sym, inl, inr, arith}
 use Rattle.std.proofs.Math.Path.{subst}
 use mathlib.Core.List.Memᴰ
-use mathlib.Core.List.{List, [], ◌∷◌, ◌++◌, Memᴰ}
+use mathlib.Core.List.{List, ◌++◌, Memᴰ}
 use Rattle.grammar.specs.Expr.{Expr}
 use Rattle.grammar.specs.Grammar.{Grammar}
 use Rattle.meaning.specs.State.{Symbol, State, Env}
 use Rattle.meaning.specs.Outcome.{Outcome}
 use Rattle.meaning.specs.Cost.{Cost, enter, ◌⊕◌}
 use Rattle.meaning.specs.Limits.{Within}
-use Rattle.meaning.specs.Rules.{Derives, symbol, empty, byte, range, any, text, seq_first, seq_both, choice_first, choice_second, star_stop, star_more, not, call, def_fail, def_pass, match, is_none_lem, is_some, isa_none, isa_some, exists, block, local, if, on}
+use Rattle.meaning.specs.Rules.{Derives, empty, byte, range, any, text, seq_first, seq_both, choice_first, choice_second, star_stop, star_more, not, call, def_fail, def_pass, match, is_none_lem, is_some, isa_none, isa_some, exists, block, local, if, on}
 use Rattle.meaning.specs.Cut.{Cut, no_steps, no_depth, no_room, empty_round, cut_first, cut_second, cut_alternative, cut_other, cut_round, cut_later, cut_not, cut_call, cut_def, cut_is, cut_isa, cut_block, cut_local, cut_on}
 use Rattle.meaning.specs.Kept.{kept}
 use Rattle.meaning.specs.Forward.{forward, ahead_pass}

@@ -1,4 +1,5 @@
--- The meaning of a grammar: what a reader must believe, and the theorems that show the three demands.
+-- The meaning of a grammar: what a reader must believe, and theorems about it.
+-- What rests on a definition that an edit of must-fail/ makes wrong is in proofs/, the three demands among it.
 pub mod State
 pub mod Outcome
 pub mod Cost
@@ -11,18 +12,14 @@ pub mod Run
 pub mod Recognise
 pub mod RunLaws
 pub mod Complete
-pub mod Sound
 pub mod Exact
 pub mod Unique
 pub mod Counted
-pub mod Remain
 pub mod Forward
 pub mod Scopes
 pub mod Pilot
 pub mod Inside
 pub mod SlotLaws
-pub mod Room
 pub mod Demands
 pub mod Cases
 pub mod Trials
-pub mod Shams

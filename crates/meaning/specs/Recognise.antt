@@ -1,6 +1,6 @@
 -- What recognise answers, and what the slots hold after it, for every image, input, limits and slot buffer. 01, "Refusal numbers" and
 -- the paragraph below its table.
-use Rattle.std.specs.Prelude.{ℕ, zero, suc, ◌+◌, ◌-◌, ◌*◌, Bool, true, false, not, List, [], ◌∷◌, ◌++◌, leb, ltb, length, drop, replicate}
+use Rattle.std.specs.Prelude.{ℕ, ◌-◌, ◌*◌, Bool, not, List, [], ◌∷◌, ◌++◌, leb, ltb, length, drop, replicate}
 use Rattle.grammar.specs.Grammar.{Grammar, node}
 use Rattle.format.specs.Reading.{pick}
 use Rattle.format.specs.Image.{Checked, good, refused, read_image}

@@ -7,7 +7,7 @@ use Rattle.grammar.specs.Expr.{Expr, Star}
 use Rattle.grammar.specs.Grammar.{Grammar, node}
 use Rattle.meaning.specs.State.{State, Env}
 use Rattle.meaning.specs.Outcome.{pass, fail}
-use Rattle.meaning.specs.Cost.{Cost, nothing, enter}
+use Rattle.meaning.specs.Cost.{nothing, enter}
 use Rattle.meaning.specs.Run.{Result, ran, refused, next, charge, after, if_consumed, round, rounds, entered, run}
 
 -- Of a Star's rounds the first number does not matter, if it is at least the steps left.

@@ -1,21 +1,18 @@
 -- What 01, "Meaning", says in words of scopes, as laws: "Block runs a and then puts back its own table's list. Local does so too, with that
 -- list empty at the start. Other tables keep what a stored." They hold where no floor lies above the symbols held and every table has a
 -- floor, which is so at the start and is kept by every derivation. And of condition switches: "on leaving On all lists are as they were on
--- entering".
+-- entering". What a Block and a Local leave is proved in proofs/Scopes.antt.
 use Rattle.std.specs.Prelude.{ℕ, zero, suc, ◌≤◌, ◌<◌, Bool, true, false, List, [], ◌∷◌, ◌++◌, reverse, eqb, length, drop, get_or, set}
-use Rattle.std.proofs.Math.Path.{◌≡◌, refl, ap, subst}
-use Rattle.std.proofs.Common.{◌∙◌, sym, append-nil, append_assoc, arith, length-append, length-set, drop_of_length-le, get_or-set_same, get_or-set_other, eq-eqb, ne_eqb, eqb-true}
+use Rattle.std.proofs.Math.Path.{◌≡◌, refl, ap}
+use Rattle.std.proofs.Common.{◌∙◌, append-nil, arith, length-set, drop_of_length-le, get_or-set_same, get_or-set_other, eqb-true}
 use Rattle.std.proofs.lemmas.List.{drop-append-le}
-use Rattle.std.proofs.Math.Seq.{drop-append_seam}
 use Rattle.std.proofs.lemmas.Bool.{eqb-false}
-use Rattle.grammar.specs.Expr.{Expr, Block, Local, On}
+use Rattle.grammar.specs.Expr.{Expr, On}
 use Rattle.grammar.specs.Grammar.{Grammar, node}
-use Rattle.meaning.specs.State.{Symbol, State, Env, outset, of_table, others, visible, hide, switch}
+use Rattle.meaning.specs.State.{State, Env, outset, of_table, others, visible, hide, switch}
 use Rattle.meaning.specs.Outcome.{Outcome, pass, fail, closed, restored}
 use Rattle.meaning.specs.Cost.{Cost}
-use Rattle.meaning.specs.Rules.{Derives, block, local, on}
-use Rattle.meaning.specs.Kept.{kept}
-use Rattle.meaning.specs.Remain.{remain, ends_eq}
+use Rattle.meaning.specs.Rules.{Derives, on}
 
 -- No table hides more symbols than are held.
 abbrev pub Floored : Env → State → Type 0
@@ -43,17 +40,8 @@ own_out t (s ∷ σ) = go (eqb s.table t) refl (own_out t σ)
     go true e h = h
     go false e h = rw (e, of_table) h
 
-other_in : (u t : ℕ) → (u ≡ t → ⊥) → (σ : State) → of_table u (others t σ) ≡ of_table u σ
-other_in u t n [] = refl
-other_in u t n (s ∷ σ) = go (eqb s.table t) refl (other_in u t n σ)
-  where
-    go : (b : Bool) → eqb s.table t ≡ b → of_table u (others t σ) ≡ of_table u σ
-        → of_table u (elim b [ true ↦ others t σ | false ↦ s ∷ others t σ ]) ≡ of_table u (s ∷ σ)
-    go true e h = rw (ne_eqb s.table u (λ q. n (sym q ∙ eqb-true s.table t e)), of_table) h
-    go false e h = ap (λ l. elim (eqb s.table u) [ true ↦ s ∷ l | false ↦ l ]) h
-
 -- A table's list after more was stored, where nothing of that is hidden.
-seen_more :
+pub seen_more :
     (v : Env) (u : ℕ) (σ l : State) → Floored v σ
     → visible v u (σ ++ l) ≡ reverse (of_table u (drop (get_or v.floors u 0) σ) ++ of_table u l)
 seen_more v u σ l f =
@@ -85,19 +73,6 @@ module _ (g : Grammar) (x : List ℕ) where
         seen_more v t σ (others t (drop (length σ) τ)) f
         ∙ rw (own_out t (drop (length σ) τ), append-nil (of_table t (drop (get_or v.floors t 0) σ)))
 
-    -- Every other table's list is as the body left it.
-    pub other_lists_stay : (t u : ℕ) → (u ≡ t → ⊥) → visible v u (left t σ τ) ≡ visible v u τ
-    other_lists_stay t u n =
-        let more : τ ≡ σ ++ kept g x D = ends_eq g x (remain g x D) in
-        seen_more v u σ (others t (drop (length σ) τ)) f
-        ∙ ap (λ l. reverse (of_table u (drop (get_or v.floors u 0) σ) ++ l)) (other_in u t n (drop (length σ) τ)
-        ∙ ap (of_table u) (ap (drop (length σ)) more ∙ drop-append_seam σ (kept g x D)))
-        ∙ sym (ap (visible v u) more ∙ seen_more v u σ (kept g x D) f)
-
-    -- No floor lies above the symbols held after a pass.
-    pub floored_after : Floored v τ
-    floored_after t = omega (arith, f t, simp length-append at (ap length (ends_eq g x (remain g x D))))
-
   -- ## Block, Local, On
 
   -- What a scope of table t, whose body ran under w, leaves: its own table's list as it was, every other list as the body left it.
@@ -106,36 +81,6 @@ module _ (g : Grammar) (x : List ℕ) where
       (visible v t υ ≡ visible v t σ)
       × (τ : State) × (c : Cost) × Derives g x w (node g a) p σ (pass q τ) c
       × ((u : ℕ) → (u ≡ t → ⊥) → visible v u υ ≡ visible v u τ)
-
-  leaves : (v w : Env) (t a p q : ℕ) (σ υ : State) → Floored v σ → (o : Outcome) (c : Cost)
-      → Derives g x w (node g a) p σ o c → closed t σ o ≡ pass q υ → Leaves v w t a p q σ υ
-  unfolding closed
-  leaves v w t a p q σ υ f (pass r τ) c D e =
-      let end : r ≡ q = cc in
-      let state : left t σ τ ≡ υ = cc in (
-        ap (visible v t) (sym state) ∙ own_list_back v D f t,
-        τ,
-        c,
-        subst (λ r. Derives g x w (node g a) p σ (pass r τ) c) end D,
-        λ u n. ap (visible v u) (sym state) ∙ other_lists_stay v D f t u n,
-      )
-  leaves v w t a p q σ υ f fail c D e = let z : ◌≡◌ {A = ℕ} 0 1 = cc in absurd (omega arith)
-
-  -- "Block runs a and then puts back its own table's list. Other tables keep what a stored."
-  pub block_leaves : {v : Env} {t a p q : ℕ} {σ υ : State} {c : Cost}
-      → Derives g x v (Block t a) p σ (pass q υ) c → Floored v σ → Leaves v v t a p q σ υ
-  block_leaves {v} {t} {a} {p} {q} {σ} {υ} D f = go D refl
-    where
-      go : {o : Outcome} {c : Cost} → Derives g x v (Block t a) p σ o c → o ≡ pass q υ → Leaves v v t a p q σ υ
-      go (block {o = o} {c = c} D) e = leaves v v t a p q σ υ f o c D e
-
-  -- "Local does so too, with that list empty at the start."
-  pub local_leaves : {v : Env} {t a p q : ℕ} {σ υ : State} {c : Cost} → Derives g x v (Local t a) p σ (pass q υ) c → Floored v σ
-      → t < length v.floors → (visible (hide v t σ) t σ ≡ []) × Leaves v (hide v t σ) t a p q σ υ
-  local_leaves {v} {t} {a} {p} {q} {σ} {υ} D f h = (local_starts_empty v t σ h, go D refl)
-    where
-      go : {o : Outcome} {c : Cost} → Derives g x v (Local t a) p σ o c → o ≡ pass q υ → Leaves v (hide v t σ) t a p q σ υ
-      go (local {o = o} {c = c} D) e = leaves v (hide v t σ) t a p q σ υ f o c D e
 
   -- "on leaving On all lists are as they were on entering."
   pub on_leaves : {v : Env} {k a p q : ℕ} {w : Bool} {σ τ : State} {c : Cost} → Derives g x v (On k w a) p σ (pass q τ) c → τ ≡ σ

@@ -1,5 +1,5 @@
 -- Laws of the slots as a call leaves them.
-use Rattle.std.specs.Prelude.{ℕ, suc, ◌+◌, ◌-◌, ◌*◌, ◌≤◌, ◌≡◌, refl, List, [], ◌∷◌, ◌++◌, length, drop, replicate}
+use Rattle.std.specs.Prelude.{ℕ, ◌-◌, ◌*◌, ◌≤◌, ◌≡◌, refl, List, [], ◌∷◌, ◌++◌, length, drop, replicate}
 use Rattle.std.proofs.Common.{ap, ◌∙◌, sym, append_assoc, arith, length-append, length-drop, drop_at}
 use Rattle.std.proofs.lemmas.List.{length-replicate}
 use Rattle.meaning.specs.State.{State}

@@ -8,7 +8,7 @@ use Rattle.grammar.specs.Grammar.{Grammar, node}
 use Rattle.meaning.specs.State.{State, Env, visible}
 use Rattle.meaning.specs.Outcome.{Outcome, pass, fail, swap, restored, closed, compared}
 use Rattle.meaning.specs.Cost.{Cost, nothing, enter, ◌⊕◌, holding}
-use Rattle.meaning.specs.Rules.{Derives, named, symbol, empty, byte, range, any, text, seq_first, seq_both, choice_first, choice_second, star_stop, star_more, not, call, def_fail, def_pass, match, is_none_lem, is_some, isa_none, isa_some, exists, block, local, if, on}
+use Rattle.meaning.specs.Rules.{Derives, symbol, empty, byte, range, any, text, seq_first, seq_both, choice_first, choice_second, star_stop, star_more, not, call, def_fail, def_pass, match, is_none_lem, is_some, isa_none, isa_some, exists, block, local, if, on}
 
 pub true≢false : ◌≡◌ {A = Bool} true false → ⊥
 true≢false e = let z : ◌≡◌ {A = ℕ} 0 1 = cc in omega arith

@@ -1,3 +1,3 @@
-// Definitions and theorems only, in specs/: the rules, derivations, limits, answers, and the three demands.
+// Definitions and theorems only, in specs/ and proofs/: the rules, derivations, limits, answers, and the three demands.
 
 #![tactic(auto)]

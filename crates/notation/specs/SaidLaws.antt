@@ -4,7 +4,7 @@ use Rattle.std.proofs.Common.{ap, sym, ◌∙◌, subst, arith, length-drop, ltb
 use Rattle.format.specs.Written.{encode}
 use Rattle.format.specs.Image.{read_image}
 use Rattle.format.specs.Image as I
-use Rattle.format.specs.ReadBack.{body_back}
+use Rattle.format.proofs.ReadBack.{body_back}
 use Rattle.format.specs.RoundTrip.{Stands}
 use Rattle.grammar.specs.Grammar.{Grammar}
 use Rattle.grammar.specs.Sound.{Bytes}

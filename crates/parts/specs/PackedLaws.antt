@@ -5,7 +5,6 @@ use native.Mathlib.Omega.{arith}
 use Rattle.std.proofs.Math.Nat.{div-add-mod', mod-lt}
 use borrow.Author.Tests.{lt-ltb, le-ltb}
 use Rattle.format.specs.Reading.{pick}
-use Rattle.parts.specs.declared.outcome.Outcome.{Outcome}
 use Rattle.parts.specs.declared.outcome.Outcome.TheVariants.{Passed, Failed, Refused}
 use Rattle.parts.specs.Packed.{packed, at_of, held_of, steps_of, depth_of, opened_of}
 

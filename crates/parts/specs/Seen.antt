@@ -1,16 +1,16 @@
 -- A table's list, found in the slot buffer: the latest symbol is where `latest_of` says, and the rest of the list is what lies below it.
-use Prim.Native.Nat.{ℕ, zero, suc, ◌+◌, ◌-◌, ◌*◌, ◌≤◌, ◌<◌}
-use Rattle.std.specs.Prelude.{◌≡◌, Bool, ltb, length, take, drop, get_or}
+use Prim.Native.Nat.{ℕ, zero, suc, ◌-◌, ◌*◌, ◌≤◌, ◌<◌}
+use Rattle.std.specs.Prelude.{◌≡◌, Bool, ltb, drop, get_or}
 use Rattle.std.proofs.Math.Path.{refl, ap}
 use Rattle.std.proofs.Common.{sym, ◌∙◌, subst, arith, drop_of_length-le, eq-eqb, ne_eqb, ltb-true, ltb-false}
 use Rattle.std.proofs.Math.Bool.{true, false}
-use mathlib.Core.List.{List, [], ◌∷◌, ◌++◌, reverse, append-nil, reverse-append}
+use mathlib.Core.List.{List, [], ◌∷◌, ◌++◌, reverse, reverse-append}
 use Rattle.std.proofs.Math.Dec.{eqb}
 use Rattle.std.proofs.lemmas.List.{drop-append-le}
 use Rattle.format.specs.Reading.{pick}
-use Rattle.meaning.specs.State.{Symbol, State, Env, of_table, visible}
+use Rattle.meaning.specs.State.{Symbol, State, of_table}
 use Rattle.meaning.specs.Scopes.{of_append}
-use Rattle.meaning.specs.Outcome.{same, some, part, text, among}
+use Rattle.meaning.specs.Outcome.{same, some, text, among}
 use Rattle.parts.specs.Slots.{symbol_at, symbols, latest_of}
 use Rattle.parts.specs.SlotsLaws.{symbols_length}
 

@@ -11,7 +11,7 @@ use Rattle.meaning.specs.Outcome.{pass, fail}
 use Rattle.meaning.specs.Cost.{Cost}
 use Rattle.meaning.specs.Run.{Result, ran, refused}
 use Rattle.meaning.specs.Recognise.{answer_of, flat, slots_after, from_start}
-use Rattle.meaning.specs.Demands.{number_of}
+use Rattle.meaning.proofs.Demands.{number_of}
 use Rattle.parts.specs.declared.outcome.Outcome as o
 use Rattle.parts.specs.declared.outcome.Outcome.TheVariants as ov
 use Rattle.parts.specs.Slots.{symbol_at, symbols}

@@ -5,6 +5,7 @@ use Rattle.grammar.specs.Grammar.{Grammar, node}
 use Rattle.grammar.specs.Sound.{Bytes}
 use Rattle.format.specs.Image.{Checked, good, refused, read_image}
 use Rattle.format.specs.RoundTrip as round
+use Rattle.format.proofs.RoundTrip as round_proved
 use Rattle.image.specs.Filled.{Loads}
 use Rattle.image.specs.Meant.{answered, verdict}
 use Rattle.image.specs.declared.walk.Verdict.{Verdict as Said}
@@ -14,13 +15,14 @@ use Rattle.image.specs.declared.walk.Loaded.{Loaded}
 use Rattle.image.specs.declared.walk.Loaded.TheVariants.{Good as Whole, Refused as Bad}
 use Rattle.meaning.specs.State.{outset}
 use Rattle.meaning.specs.Unique.{true≢false}
-use Rattle.meaning.specs.Exact.{exact, cut_exactly, at_most_one}
+use Rattle.meaning.proofs.Exact.{exact, cut_exactly, at_most_one}
 use Rattle.meaning.specs.Outcome.{pass, fail}
 use Rattle.meaning.specs.Cost.{Cost}
 use Rattle.meaning.specs.Run.{Result, ran, refused as stopped}
 use Rattle.meaning.specs.Forward.{forward, ahead_pass}
 use Rattle.meaning.specs.Recognise.{Answer, allowed, answer_of, refusal, slots_after, from_start, recognise}
 use Rattle.meaning.specs.Demands as d
+use Rattle.meaning.proofs.Demands as d_proved
 use Rattle.machine.specs.Ready.{of_checked, grammar_of, step_limit, depth_limit, room_limit, Coded}
 use Rattle.yarnspire.specs.declared.answer.Verdict.{Verdict}
 use Rattle.yarnspire.specs.declared.answer.Verdict.TheVariants.{Good, Refused as Faulty}
@@ -37,12 +39,12 @@ module _ (image : List ℕ) (bytes : Bytes image) where
   pub checks : {r : Verdict} → r ≡ verdict_of (read_image image) → Checks image r
   checks {r} e = record {
     is = e;
-    good = ((λ h. stands (read_image image) refl (sym e ∙ h)), λ h. e ∙ ap verdict_of ((round.exact image bytes h.0).1 h.1));
-    refused = λ n p h. round.refusal image bytes n p (faulty (read_image image) (sym e ∙ h));
+    good = ((λ h. stands (read_image image) refl (sym e ∙ h)), λ h. e ∙ ap verdict_of ((round_proved.exact image bytes h.0).1 h.1));
+    refused = λ n p h. round_proved.refusal image bytes n p (faulty (read_image image) (sym e ∙ h));
   }
     where
       stands : (k : Checked) → read_image image ≡ k → verdict_of k ≡ Good → (g : Grammar) × round.Stands image g
-      stands (good g) q h = (g, (round.exact image bytes g).0 q)
+      stands (good g) q h = (g, (round_proved.exact image bytes g).0 q)
       stands (refused n p) q h = let z : ◌≡◌ {A = ℕ} 0 1 = cc in absurd (omega arith)
 
       faulty : (k : Checked) {n p : ℕ} → verdict_of k ≡ Faulty n p → k ≡ refused n p
@@ -55,11 +57,11 @@ module _ (image : List ℕ) (bytes : Bytes image) where
     where
       go : (k : Checked) → read_image image ≡ k → (verdict k).number ≡ 0 → Good ≡ verdict_of k
       go (good g) q h = refl
-      go (refused n p) q h = absurd (omega (arith, (round.refusal image bytes n p q).least))
+      go (refused n p) q h = absurd (omega (arith, (round_proved.refusal image bytes n p q).least))
 
   -- The place of a fault fits 32 bits.
   pub fault_small : {n p : ℕ} → read_image image ≡ refused n p → p ≤ 16384
-  fault_small {n} {p} e = (round.refusal image bytes n p e).small
+  fault_small {n} {p} e = (round_proved.refusal image bytes n p e).small
 
 pub is_faulty : (k : Checked) {v : Said} → v ≡ verdict k → (v.number ≡ 0 → ⊥) → Faulty v.number v.place ≡ verdict_of k
 is_faulty (good g) e f = absurd (f (ap (λ v. v.number) e))
@@ -94,14 +96,14 @@ pub answers : {image input : List ℕ} {B D R : ℕ} {before after : List ℕ} {
     → record { answer = a; slots = after } ≡ recognise image input B D R before → Answers image input B D R before after a
 answers {image} {input} {B} {D} {R} {before} {after} {a} bytes e = record {
   is = e;
-  kind = subst (λ k. Kind k.answer.kind) (sym e) (d.kinds image input B D R before bytes);
-  inside = subst (λ k. k.answer.consumed ≤ length input) (sym e) (inside (d.answered image input B D R before bytes));
-  entry = entry (d.answered image input B D R before bytes);
+  kind = subst (λ k. Kind k.answer.kind) (sym e) (d_proved.kinds image input B D R before bytes);
+  inside = subst (λ k. k.answer.consumed ≤ length input) (sym e) (inside (d_proved.answered image input B D R before bytes));
+  entry = entry (d_proved.answered image input B D R before bytes);
   once = λ g. at_most_one g input outset (node g g.start) 0 [];
   ends = λ g. ends_start g input B D R (from_start g input B D R) refl;
-  fixed = λ g E. subst (d.Fixed g input B D R before) (sym e) (d.fixed E);
-  demand_2 = λ g E. subst (λ k. d.Demand2 g input B D R k.answer) (sym e) (d.demand_2 E);
-  demand_3 = λ g E. subst (λ k. d.Demand3 g input B D R k.answer before k.slots) (sym e) (d.demand_3 E);
+  fixed = λ g E. subst (d.Fixed g input B D R before) (sym e) (d_proved.fixed E);
+  demand_2 = λ g E. subst (λ k. d.Demand2 g input B D R k.answer) (sym e) (d_proved.demand_2 E);
+  demand_3 = λ g E. subst (λ k. d.Demand3 g input B D R k.answer before k.slots) (sym e) (d_proved.demand_3 E);
 }
   where
     Said : Type 0
@@ -109,7 +111,7 @@ answers {image} {input} {B} {D} {R} {before} {after} {a} bytes e = record {
         ⊎ ((n place : ℕ) × (1 ≤ n) × (n ≤ 11) × (recognise image input B D R before ≡ refusal n place before))
 
     inside : Said → (recognise image input B D R before).answer.consumed ≤ length input
-    inside (inl h) = rw (d.runs h.1) (inside_start h.0 input B D R (from_start h.0 input B D R) refl)
+    inside (inl h) = rw (d_proved.runs h.1) (inside_start h.0 input B D R (from_start h.0 input B D R) refl)
     inside (inr h) = rw h.4 (omega arith)
 
     entry : Said → ((g : Grammar) × d.Entered image g input B D R before)
@@ -183,7 +185,7 @@ module _ {image : List ℕ} {g : Grammar} (e : read_image image ≡ good g) (byt
 
   coded : Coded image limited g
   coded =
-      let s = ((round.exact image bytes g).0 e).sound in
+      let s = ((round_proved.exact image bytes g).0 e).sound in
       record {
         sound = s;
         nodes = λ n h. ap (λ w. expr_of image (node_of w)) (unlimited n (omega (arith, s.few_nodes))) ∙ loads.nodes g e n h;
@@ -198,7 +200,7 @@ module _ {image : List ℕ} {g : Grammar} (e : read_image image ≡ good g) (byt
         let q = sym (grammar_is image g e) in
         record {
           counted = count_set;
-          small = ((round.exact image bytes g).0 e).short;
+          small = ((round_proved.exact image bytes g).0 e).short;
           bytes = only;
           coded = subst (Coded image limited) q coded;
           begins = h ∙ ap (λ g. g.start) q;
@@ -217,6 +219,6 @@ module _ {image : List ℕ} {g : Grammar} (e : read_image image ≡ good g) (byt
         let left : after ++ drop (R * 3) slots ≡ slots_after R X slots = ap (λ l. l ++ drop (R * 3) slots) (left_here.leaves ∙ ap (λ n. left_by n (result_of limited image input)) room_set ∙ ap (left_by R) is_run)
         ∙ ap (λ n. left_by R X ++ drop n slots) three ∙ left_and_rest R X slots in
         record {
-          answers = answers bytes ((λ i. record { answer = (left_here.answers ∙ ap answer_of is_run) i; slots = left i }) ∙ sym (d.runs E));
+          answers = answers bytes ((λ i. record { answer = (left_here.answers ∙ ap answer_of is_run) i; slots = left i }) ∙ sym (d_proved.runs E));
           listed = left_here.listed;
         }

@@ -5,7 +5,8 @@ use Rattle.std.proofs.Common.{ap, sym, ◌∙◌, inl, inr, arith}
 use Rattle.grammar.specs.Grammar.{Grammar}
 use Rattle.meaning.specs.State.{State}
 use Rattle.meaning.specs.Recognise as m
-use Rattle.meaning.specs.Demands.{Ranges, Entered, raised_limits}
+use Rattle.meaning.specs.Demands.{Ranges, Entered}
+use Rattle.meaning.proofs.Demands.{raised_limits}
 use Rattle.yarnspire.specs.declared.answer.Answer.{Answer}
 use Rattle.yarnspire.specs.Answer.{numbers, six_of}
 use Rattle.yarnspire.specs.Promise.{Answers, Recognised, Texts}

@@ -9,7 +9,6 @@ use Rattle.meaning.specs.Forward.{begins_fits}
 use Rattle.parts.specs.Slots.{symbol_at}
 use Rattle.kinds.specs.Turned.{given_of}
 use Rattle.kinds.specs.TurnedLaws.{text_length}
-use borrow.Author.Rules.{rules}
 use Rattle.kinds.proofs.inside.again.Goals as goal
 
 pub given-requires : goal.given-requires

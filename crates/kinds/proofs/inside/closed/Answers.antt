@@ -1,10 +1,9 @@
 -- `closed` meets its promise. Assumes nothing.
-use mathlib.Core.Path.{◌≡◌, refl, ap, sym, ◌∙◌, subst}
+use mathlib.Core.Path.{sym, ◌∙◌, subst}
 use native.Mathlib.Omega.{arith}
 use Rattle.kinds.specs.Turned.{Bounds, Lent}
 use Rattle.kinds.specs.TurnedLaws.{Stops, closed_stops, closed_slides}
 use Rattle.kinds.proofs.OutcomeLaws.{stops}
-use borrow.Author.Rules.{rules}
 use Rattle.kinds.proofs.inside.closed.Goals as goal
 
 pub returns-in_default : goal.returns-in_default

@@ -1,10 +1,9 @@
 -- `defined` meets its promise. Assumes nothing.
-use mathlib.Core.Path.{◌≡◌, refl, ap, sym, ◌∙◌, subst}
+use mathlib.Core.Path.{refl, sym, ◌∙◌, subst}
 use native.Mathlib.Omega.{arith}
 use Rattle.kinds.specs.Turned.{Bounds}
 use Rattle.kinds.specs.TurnedLaws.{Stops, defined_stops, defined_stores, defined_full}
 use Rattle.kinds.proofs.OutcomeLaws.{stops}
-use borrow.Author.Rules.{rules}
 use Rattle.kinds.proofs.inside.defined.Goals as goal
 
 pub returns-in_default : goal.returns-in_default

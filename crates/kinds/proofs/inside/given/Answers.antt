@@ -1,8 +1,7 @@
 -- `given` meets its promise. Assumes nothing.
-use mathlib.Core.Path.{◌≡◌, ap, sym, ◌∙◌}
+use mathlib.Core.Path.{ap, sym, ◌∙◌}
 use Rattle.format.specs.Reading.{pick}
 use Rattle.parts.specs.declared.outcome.Outcome.TheVariants.{Passed, Failed}
-use borrow.Author.Rules.{rules}
 use Rattle.kinds.proofs.inside.given.Goals as goal
 
 pub passed-requires : goal.passed-requires

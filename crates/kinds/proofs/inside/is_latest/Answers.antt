@@ -1,5 +1,5 @@
 -- `is_latest` meets its promise. Assumes nothing.
-use mathlib.Core.Path.{◌≡◌, refl, ap, sym, ◌∙◌, subst}
+use mathlib.Core.Path.{ap, sym, ◌∙◌, subst}
 use native.Mathlib.Omega.{arith}
 use Rattle.meaning.specs.Outcome.{same, part, text}
 use Rattle.parts.specs.Slots.{symbol_at}
@@ -7,7 +7,6 @@ use Rattle.kinds.specs.Turned.{Bounds, given_of, compared_of}
 use Rattle.kinds.specs.TurnedLaws.{Stops, compared_stops}
 use lib.ListN.{length}
 use Rattle.kinds.proofs.OutcomeLaws.{stops}
-use borrow.Author.Rules.{rules}
 use Rattle.kinds.proofs.inside.is_latest.Goals as goal
 
 pub returns-in_default : goal.returns-in_default
@@ -18,7 +17,7 @@ returns-in_default c = let o = c.opened-inner in
 pub is_symbol-ok-requires : goal.is_symbol-ok-requires
 is_symbol-ok-requires c = let a = c.args in
     let b = subst (Bounds (length a.input.now) a.at 0 256) (sym c.opened-inner.ensures ∙ c.in-Passed.is) c.requires.5 in
-    (c.requires.1, c.requires.2, c.requires.3, b.0, b.1)
+    (c.requires.1, c.requires.2, c.requires.3, omega (arith, b.0), b.1)
 
 pub given-requires : goal.given-requires
 given-requires c = let a = c.args in

@@ -1,5 +1,5 @@
 -- `is_some` meets its promise. Assumes nothing.
-use mathlib.Core.Path.{◌≡◌, refl, ap, sym, ◌∙◌, subst}
+use mathlib.Core.Path.{ap, sym, ◌∙◌, subst}
 use native.Mathlib.Omega.{arith}
 use Rattle.meaning.specs.Outcome.{part, among}
 use Rattle.parts.specs.Seen.{listed}
@@ -7,7 +7,6 @@ use Rattle.kinds.specs.Turned.{Bounds, given_of, compared_of}
 use Rattle.kinds.specs.TurnedLaws.{Stops, compared_stops}
 use lib.ListN.{length}
 use Rattle.kinds.proofs.OutcomeLaws.{stops}
-use borrow.Author.Rules.{rules}
 use Rattle.kinds.proofs.inside.is_some.Goals as goal
 
 pub returns-in_default : goal.returns-in_default

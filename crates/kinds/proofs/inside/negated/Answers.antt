@@ -1,11 +1,9 @@
 -- `negated` meets its promise. Assumes nothing.
-use mathlib.Core.Path.{◌≡◌, refl, ap, sym, ◌∙◌, subst}
+use mathlib.Core.Path.{ap, sym, ◌∙◌, subst}
 use native.Mathlib.Omega.{arith}
-use mathlib.Core.Logic.{inr}
 use Rattle.kinds.specs.Turned.{Bounds, negated_of}
 use Rattle.kinds.specs.TurnedLaws.{Stops, Stays, negated_stops}
 use Rattle.kinds.proofs.OutcomeLaws.{stops, stays}
-use borrow.Author.Rules.{rules}
 use Rattle.kinds.proofs.inside.negated.Goals as goal
 
 pub failed-requires : goal.failed-requires
@@ -14,7 +12,7 @@ failed-requires c = let b = subst (Bounds 65535 0 0 256) (sym c.opened-inner.ens
 
 pub passed-requires : goal.passed-requires
 passed-requires c = let b = subst (Bounds 65535 0 0 256) (sym c.opened-inner.ensures ∙ c.in-Failed.is) c.requires.2 in
-    (c.requires.0, c.requires.1, b.0, b.1)
+    (c.requires.0, omega (arith, c.requires.1), b.0, b.1)
 
 pub returns-in-Passed : goal.returns-in-Passed
 returns-in-Passed c = let a = c.args in

@@ -1,10 +1,9 @@
 -- `restored` meets its promise. Assumes nothing.
-use mathlib.Core.Path.{◌≡◌, refl, ap, sym, ◌∙◌, subst}
+use mathlib.Core.Path.{ap, sym, ◌∙◌, subst}
 use native.Mathlib.Omega.{arith}
 use Rattle.kinds.specs.Turned.{Bounds, restored_of}
 use Rattle.kinds.specs.TurnedLaws.{Stops, restored_stops}
 use Rattle.kinds.proofs.OutcomeLaws.{stops}
-use borrow.Author.Rules.{rules}
 use Rattle.kinds.proofs.inside.restored.Goals as goal
 
 pub returns-in_default : goal.returns-in_default
@@ -13,7 +12,7 @@ returns-in_default c = let o = c.opened-inner in
 
 pub passed-requires : goal.passed-requires
 passed-requires c = let b = subst (Bounds 65535 0 0 256) (sym c.opened-inner.ensures ∙ c.in-Passed.is) c.requires.1 in
-    (b.1, c.requires.0, b.4, b.5)
+    (b.1, omega (arith, c.requires.0), b.4, b.5)
 
 pub returns : goal.returns
 returns c = let a = c.args in

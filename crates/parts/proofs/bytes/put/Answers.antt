@@ -1,11 +1,10 @@
 -- `put` meets its promise. The loop's invariant: the bytes of b up to here, and the rest as it was. Assumes nothing.
-use Prim.Native.Nat.{◌≤◌, ◌-◌}
 use mathlib.Core.Path.{◌≡◌, ap, ◌∙◌}
 use mathlib.Core.List.{◌++◌}
 use native.Mathlib.Omega.{arith}
 use lib.ListN.{length, take, drop}
 use lib.Seq.{take-length}
-use Rattle.parts.proofs.CopyLaws.{Copied, copied_none, copied_more}
+use Rattle.parts.proofs.CopyLaws.{copied_none, copied_more}
 use Rattle.parts.proofs.bytes.put.Goals as goal
 
 pub loop-i-init : goal.loop-i-init

@@ -1,11 +1,7 @@
 -- `put` meets its promise. The loop's invariant: the bytes of b up to here, and the rest as it was. Assumes nothing.
 use Prim.Native.Nat.{◌≤◌, ◌-◌}
-use mathlib.Core.Path.{◌≡◌, ap, ◌∙◌}
-use mathlib.Core.List.{◌++◌}
-use native.Mathlib.Omega.{arith}
-use lib.ListN.{length, take, drop}
-use lib.Seq.{take-length}
-use Rattle.parts.proofs.CopyLaws.{Copied, copied_none, copied_more}
+use lib.ListN.{length}
+use Rattle.parts.proofs.CopyLaws.{Copied}
 use Rattle.parts.proofs.bytes.put.Given as goal
 
 abbrev pub invariant-loop-i : goal.invariant-loop-i

@@ -1,8 +1,7 @@
 -- `same` meets its promise. The loop's invariant: the whole is the same exactly if the rest is. The measure is what is left to compare.
 -- Assumes nothing.
-use Prim.Native.Nat.{◌-◌}
 use native.Mathlib.Omega.{arith}
-use Rattle.parts.proofs.ByteLaws.{Compared, compared_none, compared_more, compared_differs, compared_all}
+use Rattle.parts.proofs.ByteLaws.{compared_none, compared_more, compared_differs, compared_all}
 use Rattle.parts.proofs.bytes.same.Goals as goal
 
 pub loop-k-init : goal.loop-k-init

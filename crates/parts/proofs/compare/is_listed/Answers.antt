@@ -1,9 +1,9 @@
 -- `is_listed` meets its promise. The loop's invariant: the bytes are found in the list exactly if they are found in what is left of it. Assumes nothing.
-use Prim.Native.Nat.{◌-◌, ◌≤◌}
-use mathlib.Core.Path.{◌≡◌, refl, sym, ◌∙◌}
+use Prim.Native.Nat.{◌-◌}
+use mathlib.Core.Path.{refl, sym, ◌∙◌}
 use native.Mathlib.Omega.{arith}
 use Rattle.meaning.specs.Outcome.{part}
-use Rattle.parts.specs.Seen.{found_in, look_end, look_other, look_found, look_differs}
+use Rattle.parts.specs.Seen.{look_end, look_other, look_found, look_differs}
 use Rattle.parts.proofs.compare.is_listed.Goals as goal
 
 pub loop-next-init : goal.loop-next-init

@@ -1,8 +1,6 @@
 -- `onward` meets its promise. Assumes nothing.
-use mathlib.Core.Path.{ap, sym, ◌∙◌}
 use native.Mathlib.Omega.{arith}
-use Rattle.format.specs.Reading.{pick}
-use Rattle.parts.specs.PackedLaws.{short_number, tally_whole, depth_small, opens_onward, opens_lost}
+use Rattle.parts.specs.PackedLaws.{short_number, opens_onward, opens_lost}
 use Rattle.parts.proofs.outcome.onward.Goals as goal
 
 pub overflow_add-result : goal.overflow_add-result

@@ -1,5 +1,5 @@
 -- `close` meets its promise. The loop's invariant: what was passed is closed already, and what lies ahead is as it was. Assumes nothing.
-use Prim.Native.Nat.{◌+◌, ◌-◌}
+use Prim.Native.Nat.{◌+◌}
 use mathlib.Core.Path.{subst, sym}
 use native.Mathlib.Omega.{arith}
 use Rattle.parts.specs.SlotsLaws.{Closing, closing_starts, closing_drops, closing_keeps, closing_ends}

@@ -1,8 +1,6 @@
 -- `close` meets its promise. The loop's invariant: what was passed is closed already, and what lies ahead is as it was. Assumes nothing.
-use Prim.Native.Nat.{◌+◌, ◌-◌}
-use mathlib.Core.Path.{subst, sym}
-use native.Mathlib.Omega.{arith}
-use Rattle.parts.specs.SlotsLaws.{Closing, closing_starts, closing_drops, closing_keeps, closing_ends}
+use Prim.Native.Nat.{◌-◌}
+use Rattle.parts.specs.SlotsLaws.{Closing}
 use Rattle.parts.proofs.slots.close.Given as goal
 
 abbrev pub invariant-loop-from : goal.invariant-loop-from

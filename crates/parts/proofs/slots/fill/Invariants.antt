@@ -1,10 +1,6 @@
 -- `fill` meets its promise. The loop's invariant: the others up to here, and the rest as it was. Assumes nothing.
 use Prim.Native.Nat.{◌≤◌, ◌-◌}
-use mathlib.Core.Path.{◌≡◌, ap, ◌∙◌}
-use mathlib.Core.List.{◌++◌}
-use native.Mathlib.Omega.{arith}
-use lib.ListN.{take, drop}
-use Rattle.parts.proofs.CopyLaws.{Copied, copied_none, copied_more}
+use Rattle.parts.proofs.CopyLaws.{Copied}
 use Rattle.parts.proofs.slots.fill.Given as goal
 
 abbrev pub invariant-loop-i : goal.invariant-loop-i

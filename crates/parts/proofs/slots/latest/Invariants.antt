@@ -1,7 +1,5 @@
 -- `latest` meets its promise. The loop's invariant: what is sought is to be found among those that are left. Assumes nothing.
-use native.Mathlib.Omega.{arith}
-use Rattle.parts.specs.SlotsLaws.{Sought, sought_here, sought_on, latest_end}
-use mathlib.Core.Path.{refl, sym, ◌∙◌}
+use Rattle.parts.specs.SlotsLaws.{Sought}
 use Rattle.parts.proofs.slots.latest.Given as goal
 
 abbrev pub invariant-loop-from : goal.invariant-loop-from

@@ -1,9 +1,8 @@
 -- `zero` meets its promise. The loop's invariant: zeros up to here, and the rest as it was. Assumes nothing.
-use Prim.Native.Nat.{◌≤◌, ◌-◌}
-use mathlib.Core.Path.{◌≡◌, ap, ◌∙◌}
+use mathlib.Core.Path.{ap, ◌∙◌}
 use native.Mathlib.Omega.{arith}
-use lib.ListN.{length, set, length-set}
-use Rattle.parts.specs.SlotsLaws.{zeroed, zeroed_none, zeroed_more, zeroed_all}
+use lib.ListN.{set, length-set}
+use Rattle.parts.specs.SlotsLaws.{zeroed_none, zeroed_more, zeroed_all}
 use Rattle.parts.proofs.slots.zero.Goals as goal
 
 pub loop-i-init : goal.loop-i-init

@@ -1,9 +1,8 @@
 -- `zero` meets its promise. The loop's invariant: zeros up to here, and the rest as it was. Assumes nothing.
 use Prim.Native.Nat.{◌≤◌, ◌-◌}
-use mathlib.Core.Path.{◌≡◌, ap, ◌∙◌}
-use native.Mathlib.Omega.{arith}
-use lib.ListN.{length, set, length-set}
-use Rattle.parts.specs.SlotsLaws.{zeroed, zeroed_none, zeroed_more, zeroed_all}
+use mathlib.Core.Path.{◌≡◌}
+use lib.ListN.{length}
+use Rattle.parts.specs.SlotsLaws.{zeroed}
 use Rattle.parts.proofs.slots.zero.Given as goal
 
 abbrev pub invariant-loop-i : goal.invariant-loop-i

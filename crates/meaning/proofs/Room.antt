@@ -1,14 +1,13 @@
 -- `room_enough`: a pass holds no more symbols than it began with or its derivation's room says. So within the room R no more than R are
 -- ever held.
-use Rattle.std.specs.Prelude.{ℕ, suc, ◌+◌, ◌≤◌, max, ◌≡◌, refl, Bool, true, false, List, [], ◌∷◌, ◌++◌, eqb, length, take, drop}
-use Rattle.std.proofs.Common.{ap, le_trans, arith, length-append, length-drop}
+use Rattle.std.specs.Prelude.{ℕ, suc, ◌+◌, ◌≤◌, max, Bool, true, false, List, [], ◌∷◌, ◌++◌, eqb, length, drop}
+use Rattle.std.proofs.Common.{le_trans, arith, length-append, length-drop}
 use Rattle.grammar.specs.Expr.{Expr}
 use Rattle.grammar.specs.Grammar.{Grammar}
 use Rattle.meaning.specs.State.{Symbol, State, Env, others}
-use Rattle.meaning.specs.Outcome.{Outcome, pass, fail, begins, pass_if, swap, restored, closed, text as letters, matched, among, compared}
-use Rattle.meaning.specs.Cost.{Cost, holding}
+use Rattle.meaning.specs.Outcome.{Outcome, pass, fail, begins, pass_if, swap, restored, closed, text as letters, matched, compared}
+use Rattle.meaning.specs.Cost.{Cost}
 use Rattle.meaning.specs.Rules.{Derives, symbol, empty, byte, range, any, text, seq_first, seq_both, choice_first, choice_second, star_stop, star_more, not, call, def_fail, def_pass, match, is_none_lem, is_some, isa_none, isa_some, exists, block, local, if, on}
-use Rattle.meaning.specs.Remain.{remain, ends_eq}
 
 -- An outcome that holds at most so many symbols.
 pub data AtMost (n : ℕ) : Outcome → Type 0 where

@@ -1,7 +1,7 @@
 -- `sound`: what the machine answers has a derivation within the limits; what it refuses is a run that is cut short.
 use Prim.Native.Nat.{ℕ, zero, suc, ◌-◌, ◌≤◌}
 use Rattle.std.specs.Prelude.{◌≡◌, refl, Bool, List, length}
-use Rattle.std.proofs.Common.{ap, ◌∙◌, sym, subst, ltb-true, ltb-false}
+use Rattle.std.proofs.Common.{ltb-true, ltb-false}
 use Rattle.std.proofs.Math.Bool.{true, false}
 use native.Mathlib.Omega.{arith}
 use Rattle.std.proofs.Math.Dec.{ltb}

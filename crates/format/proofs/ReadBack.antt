@@ -1,15 +1,15 @@
 -- What is written is read back: where the writing of something sound stands, reading gives it.
-use Rattle.std.specs.Prelude.{ℕ, zero, suc, ◌+◌, ◌≤◌, ◌<◌, ◌≡◌, refl, true, false, List, [], ◌∷◌, ◌++◌, drop, length, get_or}
+use Rattle.std.specs.Prelude.{ℕ, suc, ◌+◌, ◌≤◌, ◌<◌, ◌≡◌, refl, true, false, List, [], ◌∷◌, ◌++◌, drop, length}
 use Rattle.std.proofs.Common.{ap, sym, ◌∙◌, append_assoc, append-nil, arith, length-append, length-drop, drop-drop, lt-ltb, le-leb}
 use Rattle.std.proofs.Math.Seq.{take-append_seam, drop-append_seam}
 use Rattle.grammar.specs.Expr.{Expr, Empty, Byte, Range, Any, Text, Sequence, Choice, Star, Not, Call, Def, Match, Is, Isa, Exists, Block, Local, If, On}
-use Rattle.grammar.specs.Grammar.{Grammar, tables, size, node, pattern}
+use Rattle.grammar.specs.Grammar.{Grammar, tables, size}
 use Rattle.grammar.specs.Sound.{Fits, Sound}
 use Rattle.format.specs.Reading.{Reading, got, ◌then◌}
 use Rattle.format.specs.Number.{groups}
 use Rattle.format.specs.NumberLaws.{first_back}
 use Rattle.format.specs.Written.{written, numbers, encode_node, heading, encode}
-use Rattle.format.specs.Image.{times, Head, bounded, raw, node_at, head_at, body_at}
+use Rattle.format.specs.Image.{times, bounded, raw, node_at, head_at, body_at}
 use Rattle.format.specs.ImageLaws.{EachFrom, nil, ◌&◌, each_of, zero_plus}
 
 module _ (image : List ℕ) where

@@ -1,17 +1,14 @@
 -- The shams of 01, "What the contracts settle". An answerer of each kind breaks demand 2 or demand 3, as these are stated over derivations.
-use Rattle.std.specs.Prelude.{ℕ, ◌+◌, ◌-◌, ◌*◌, ◌≤◌, ◌≡◌, refl, ◌⊎◌, List, [], ◌∷◌, ◌++◌, length, get_or, replicate}
+use Rattle.std.specs.Prelude.{ℕ, ◌≡◌, refl, ◌⊎◌, List, [], ◌∷◌, length, get_or}
 use Rattle.std.proofs.Common.{ap, ◌∙◌, sym, inl, inr, arith}
 use Rattle.grammar.specs.Grammar.{Grammar}
-use Rattle.format.specs.Image.{read_image, good}
 use Rattle.format.specs.Cases.{harbour, harbour_grammar, harbour_read}
 use Rattle.meaning.specs.State.{State}
 use Rattle.meaning.specs.Outcome.{pass}
-use Rattle.meaning.specs.Cost.{Cost}
-use Rattle.meaning.specs.Limits.{Within}
-use Rattle.meaning.specs.Steps.{used}
 use Rattle.meaning.specs.Kept.{kept}
-use Rattle.meaning.specs.Recognise.{Answer, Called, flat, filled, recognise}
-use Rattle.meaning.specs.Demands.{Entered, Recognises, Accepts, Demand2, Demand3, demand_2, demand_3}
+use Rattle.meaning.specs.Recognise.{Answer, Called, filled, recognise}
+use Rattle.meaning.specs.Demands.{Entered, Accepts, Demand2, Demand3}
+use Rattle.meaning.proofs.Demands.{demand_2, demand_3}
 
 -- `A=A` and `AB=AB` against image H, with limits that are just enough.
 abbrev one : List ℕ
