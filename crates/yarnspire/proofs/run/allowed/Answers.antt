@@ -2,7 +2,8 @@
 use mathlib.Core.Path.{sym}
 use native.Mathlib.Nat.{pos_of_ne-zero}
 use native.Mathlib.Omega.{arith}
-use Rattle.meaning.specs.Demands.{in_range_lem, out_of_range}
+use Rattle.meaning.specs.Demands.{in_range_lem}
+use Rattle.meaning.proofs.Demands.{out_of_range}
 use Rattle.yarnspire.proofs.run.allowed.Goals as goal
 
 pub returns-then-steps-eq0 : goal.returns-then-steps-eq0
