@@ -1,7 +1,7 @@
 -- The demands, proved of the machine's answer and of `recognise`.
-use Rattle.std.specs.Prelude.{ℕ, ◌*◌, ◌≤◌, ◌<◌, ◌≡◌, refl, Bool, true, false, ◌⊎◌, List, [], ltb, length, drop}
+use Rattle.std.specs.Prelude.{ℕ, ◌*◌, ◌≤◌, ◌≡◌, refl, Bool, true, false, ◌⊎◌, List, [], ltb, length, drop}
 use Rattle.std.proofs.Common.{ap, ◌∙◌, sym, inl, inr, arith}
-use borrow.Author.Tests.{le-ltb, lt-ltb, ltb-true, ltb-false}
+use borrow.Author.Tests.{le-ltb, ltb-true, ltb-false}
 use Rattle.grammar.specs.Grammar.{Grammar, node}
 use Rattle.grammar.specs.Sound.{Bytes}
 use Rattle.format.specs.Image.{Checked, good, refused, read_image}
@@ -23,7 +23,7 @@ use Rattle.meaning.proofs.Counted.{spent_counted}
 use Rattle.meaning.proofs.Remain.{remain, ends_eq}
 use Rattle.meaning.proofs.Room.{room_enough, of_pass}
 use Rattle.meaning.specs.SlotLaws.{past_same, filled_length}
-use Rattle.meaning.specs.Demands.{Ranges, Entered, Recognises, Accepts, Fails, Derivable, Demand2, Demand3, Fixed, in_range_lem, of_range, image_refused, input_refused}
+use Rattle.meaning.specs.Demands.{Ranges, Entered, Recognises, Accepts, Fails, Derivable, Demand2, Demand3, Fixed, in_range_lem, of_range, runs, image_refused, input_refused, slots_refused}
 
 -- ## They hold of the machine's answer
 
@@ -125,20 +125,14 @@ out_of_range B D R h = go (allowed B D R) refl
     go false e = refl
 
 module _ {image : List ℕ} {g : Grammar} {x : List ℕ} {B D R : ℕ} {slots : List ℕ} (E : Entered image g x B D R slots) where
-  -- Once the entry checks pass, the answer and the slots are the run's.
-  pub runs :
-      recognise image x B D R slots ≡ record { answer = answer_of (from_start g x B D R); slots = slots_after R (from_start g x B D R) slots }
-  unfolding recognise
-  runs = rw E.image_good (rw (le-ltb 65535 (length x) E.input_short, in_range_lem E.ranges, le-ltb (length slots) (3 * R) E.slots_enough))
-
   pub demand_2 : Demand2 g x B D R (recognise image x B D R slots).answer
-  demand_2 = rw runs (machine_2 g x B D R)
+  demand_2 = rw (runs E) (machine_2 g x B D R)
 
   pub demand_3 : Demand3 g x B D R (recognise image x B D R slots).answer slots (recognise image x B D R slots).slots
-  demand_3 = rw runs (machine_3 g x B D R slots)
+  demand_3 = rw (runs E) (machine_3 g x B D R slots)
 
   pub fixed : Fixed g x B D R slots (recognise image x B D R slots)
-  fixed = rw runs (machine_fixed g x B D R slots)
+  fixed = rw (runs E) (machine_fixed g x B D R slots)
 
   -- ## What a caller may rely on
 
@@ -148,7 +142,7 @@ module _ {image : List ℕ} {g : Grammar} {x : List ℕ} {B D R : ℕ} {slots : 
 
   -- What holds of every list of slots that a run can leave holds of the slots left.
   each_outcome : (P : List ℕ → Type 0) → ((τ : State) → length τ ≤ R → P (filled R τ slots)) → P (recognise image x B D R slots).slots
-  each_outcome P all = rw runs (go (from_start g x B D R) refl)
+  each_outcome P all = rw (runs E) (go (from_start g x B D R) refl)
     where
       go : (r : Result) → from_start g x B D R ≡ r → P (slots_after R r slots)
       go (ran (pass n τ) c) h = all τ (symbols_fit n τ c h)
@@ -191,18 +185,13 @@ raised_limits {image} {g} {x} {B} {D} {R} {B'} {D'} {R'} {slots} {slots'} E E' h
         let l = number_of g x B D R h in let m : (answer_of (from_start g x B D R)).kind ≡ n = ap (λ r. (answer_of r).kind) h in
         absurd (omega arith)
 
--- ## The entry checks, in their order: 10 and 11
+-- ## The entry checks: 10
 
 module _ (image : List ℕ) (g : Grammar) (x : List ℕ) (B D R : ℕ) (slots : List ℕ) (e : read_image image ≡ good g) where
   -- 10: the limits, whatever the slots are.
   pub limits_refused : length x ≤ 65535 → ¬ (Ranges B D R) → recognise image x B D R slots ≡ refusal 10 0 slots
   unfolding recognise
   limits_refused h f = rw e (rw (le-ltb 65535 (length x) h, out_of_range B D R f))
-
-  -- 11: the slots.
-  pub slots_refused : length x ≤ 65535 → Ranges B D R → length slots < 3 * R → recognise image x B D R slots ≡ refusal 11 0 slots
-  unfolding recognise
-  slots_refused h f l = rw e (rw (le-ltb 65535 (length x) h, in_range_lem f, lt-ltb (length slots) (3 * R) l))
 
 -- ## DEMAND 1
 

@@ -1,7 +1,7 @@
 -- The demands, stated over derivations. Of `recognise` they are proved in proofs/Demands.antt.
 use Rattle.std.specs.Prelude.{ℕ, ◌*◌, ◌≤◌, ◌<◌, ◌≡◌, refl, Bool, true, false, ◌↔◌, List, [], leb, length}
 use Rattle.std.proofs.Common.{arith}
-use borrow.Author.Tests.{le-leb, leb-true, lt-ltb}
+use borrow.Author.Tests.{le-leb, leb-true, le-ltb, lt-ltb}
 use Rattle.grammar.specs.Grammar.{Grammar, node}
 use Rattle.format.specs.Image.{good, refused, read_image}
 use Rattle.meaning.specs.State.{State, outset}
@@ -12,7 +12,7 @@ use Rattle.meaning.specs.Limits.{Within}
 use Rattle.meaning.specs.Cut.{Cut}
 use Rattle.meaning.specs.Kept.{kept}
 use Rattle.meaning.specs.Steps.{used, spent}
-use Rattle.meaning.specs.Recognise.{Answer, Called, filled, refusal, between, allowed, recognise}
+use Rattle.meaning.specs.Recognise.{Answer, Called, answer_of, filled, slots_after, refusal, from_start, between, allowed, recognise}
 
 -- "Limits: steps B 1 to 1,000,000; depth D 1 to 256; room R 0 to 256."
 pub record Ranges (B D R : ℕ) : Type 0 where
@@ -86,23 +86,21 @@ module _ (g : Grammar) (x : List ℕ) (B D R : ℕ) where
       slots = filled R [] before;
     }
 
--- ## The limits, and the entry checks before them
+-- ## The limits, and the entry checks but 10
 
 both : (a b : Bool) → (a and b) ≡ true → (a ≡ true) × (b ≡ true)
 both true b e = (refl, e)
 both false b e = let z : ◌≡◌ {A = ℕ} 0 1 = cc in absurd (omega arith)
 
+all : {a b : Bool} → a ≡ true → b ≡ true → (a and b) ≡ true
+all e f = rw (e, f)
+
 -- The test of the limits is their ranges.
 pub in_range_lem : {B D R : ℕ} → Ranges B D R → allowed B D R ≡ true
 in_range_lem {B} {D} {R} h =
-    rw (
-      le-leb 1 B h.some_steps,
-      le-leb B 1000000 h.few_steps,
-      le-leb 1 D h.some_depth,
-      le-leb D 256 h.small_depth,
-      le-leb 0 R (omega arith),
-      le-leb R 256 h.small_room,
-    )
+    all (all (le-leb 1 B h.some_steps) (le-leb B _ (omega (arith, h.few_steps))))
+    (all (all (le-leb 1 D h.some_depth) (le-leb D _ (omega (arith, h.small_depth))))
+    (all (le-leb 0 R (omega arith)) (le-leb R _ (omega (arith, h.small_room)))))
 
 pub of_range : {B D R : ℕ} → allowed B D R ≡ true → Ranges B D R
 of_range {B} {D} {R} h =
@@ -119,6 +117,13 @@ of_range {B} {D} {R} h =
       small_room = leb-true R 256 r.1;
     }
 
+module _ {image : List ℕ} {g : Grammar} {x : List ℕ} {B D R : ℕ} {slots : List ℕ} (E : Entered image g x B D R slots) where
+  -- Once the entry checks pass, the answer and the slots are the run's.
+  pub runs :
+      recognise image x B D R slots ≡ record { answer = answer_of (from_start g x B D R); slots = slots_after R (from_start g x B D R) slots }
+  unfolding recognise
+  runs = rw E.image_good (rw (le-ltb 65535 (length x) E.input_short, in_range_lem E.ranges, le-ltb (length slots) (3 * R) E.slots_enough))
+
 -- 1 to 8: the image's own fault, whatever input, limits and slots are.
 pub image_refused :
     (image x : List ℕ) (B D R : ℕ) (slots : List ℕ) (n place : ℕ) → read_image image ≡ refused n place
@@ -131,3 +136,8 @@ module _ (image : List ℕ) (g : Grammar) (x : List ℕ) (B D R : ℕ) (slots : 
   pub input_refused : 65535 < length x → recognise image x B D R slots ≡ refusal 9 0 slots
   unfolding recognise
   input_refused h = rw e (rw (lt-ltb 65535 (length x) h))
+
+  -- 11: the slots.
+  pub slots_refused : length x ≤ 65535 → Ranges B D R → length slots < 3 * R → recognise image x B D R slots ≡ refusal 11 0 slots
+  unfolding recognise
+  slots_refused h f l = rw e (rw (le-ltb 65535 (length x) h, in_range_lem f, lt-ltb (length slots) (3 * R) l))

@@ -111,7 +111,7 @@ answers {image} {input} {B} {D} {R} {before} {after} {a} bytes e = record {
         ⊎ ((n place : ℕ) × (1 ≤ n) × (n ≤ 11) × (recognise image input B D R before ≡ refusal n place before))
 
     inside : Said → (recognise image input B D R before).answer.consumed ≤ length input
-    inside (inl h) = rw (d_proved.runs h.1) (inside_start h.0 input B D R (from_start h.0 input B D R) refl)
+    inside (inl h) = rw (d.runs h.1) (inside_start h.0 input B D R (from_start h.0 input B D R) refl)
     inside (inr h) = rw h.4 (omega arith)
 
     entry : Said → ((g : Grammar) × d.Entered image g input B D R before)
@@ -219,6 +219,6 @@ module _ {image : List ℕ} {g : Grammar} (e : read_image image ≡ good g) (byt
         let left : after ++ drop (R * 3) slots ≡ slots_after R X slots = ap (λ l. l ++ drop (R * 3) slots) (left_here.leaves ∙ ap (λ n. left_by n (result_of limited image input)) room_set ∙ ap (left_by R) is_run)
         ∙ ap (λ n. left_by R X ++ drop n slots) three ∙ left_and_rest R X slots in
         record {
-          answers = answers bytes ((λ i. record { answer = (left_here.answers ∙ ap answer_of is_run) i; slots = left i }) ∙ sym (d_proved.runs E));
+          answers = answers bytes ((λ i. record { answer = (left_here.answers ∙ ap answer_of is_run) i; slots = left i }) ∙ sym (d.runs E));
           listed = left_here.listed;
         }

@@ -11,8 +11,8 @@ use lib.Seq.{length-take-le}
 use Rattle.grammar.specs.Sound.{Bytes}
 use Rattle.format.specs.Image.{read_image}
 use Rattle.format.proofs.RoundTrip.{exact, refusal}
-use Rattle.meaning.specs.Demands.{Entered, image_refused, input_refused}
-use Rattle.meaning.proofs.Demands.{limits_refused, slots_refused}
+use Rattle.meaning.specs.Demands.{Entered, image_refused, input_refused, slots_refused}
+use Rattle.meaning.proofs.Demands.{limits_refused}
 use Rattle.yarnspire.specs.PromiseLaws.{found_fault, fault_small, found_good, refuses, permitted, disallowed, run_asks, run_gives}
 use Rattle.yarnspire.proofs.recognise.Goals as goal
 
