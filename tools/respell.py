@@ -37,14 +37,19 @@ def spans(text, names):
     return SPAN.sub(lambda m: turned(m[0], names), text)
 
 
+def once(code):
+    """An import 'a as b' whose two names became one, as the name alone."""
+    return re.sub(r"(?<![^\s{,])(\S+) as \1(?=[,}\s])", r"\1", code)
+
+
 def antt(text, names):
-    """Each line's code, and the code spans of its comment. An import 'a as b' whose two names become one is written once."""
+    """Each line's code, and the code spans of its comment."""
     out = []
     for line in text.split("\n"):
         m = re.search(r"(?<![^\s(){}.;,])--(?!-)", line)
         code, note = (line[: m.start()], line[m.start() :]) if m else (line, "")
-        out.append(turned(code, names) + spans(note, names))
-    return re.sub(r"(?<![^\s{,])(\S+) as \1(?=[,}\s])", r"\1", "\n".join(out))
+        out.append(once(turned(code, names)) + spans(note, names))
+    return "\n".join(out)
 
 
 def clause_end(text, at):
@@ -63,9 +68,9 @@ def rt(text, names):
         out.append(text[at : m.start()])
         end = m.end() if m[0].startswith(("//", "ghost use")) else clause_end(text, m.end())
         part = text[m.start() : end]
-        out.append(spans(part, names) if part.startswith("//") else turned(part, names))
+        out.append(spans(part, names) if part.startswith("//") else once(turned(part, names)))
         at = end
-    return re.sub(r"(?<![^\s{,])(\S+) as \1(?=[,}\s])", r"\1", "".join(out) + text[at:])
+    return "".join(out) + text[at:]
 
 
 def edit(text, names):

@@ -6,7 +6,7 @@ use Rattle.notation.specs.Said.{Says}
 use Rattle.compiler.specs.declared.image.Compiled.{Compiled}
 use Rattle.compiler.specs.declared.image.Compiled.TheVariants.{Written, Refused}
 
--- What is given for an answer: the image at the buffer's front, its length, and what lies past it was; or number and place, and the
+-- What is given for an answer: the image at the buffer's front, its length, and what lies past it as it was; or number and place, and the
 -- whole buffer as it was.
 abbrev pub Gives : Answer → (before after : List ℕ) → Compiled → Type 0
 Gives (good g) before after (Written n) = (n ≡ length (encode g)) × (after ≡ encode g ++ drop (length (encode g)) before)

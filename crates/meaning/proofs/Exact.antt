@@ -14,7 +14,8 @@ use Rattle.meaning.specs.Cut.{Cut}
 use Rattle.meaning.specs.Run.{Result, ran, refused, run}
 use Rattle.meaning.specs.Complete.{complete}
 use Rattle.meaning.proofs.Complete.{cut_complete}
-use Rattle.meaning.proofs.Sound.{All, came, cut, sound}
+use Rattle.meaning.specs.Sound.{All, came, cut}
+use Rattle.meaning.proofs.Sound.{sound}
 use Rattle.meaning.specs.Exact.{Derivable, Stopped}
 
 of_ran : {Q : Outcome → Cost → Type 0} {S : ℕ → ℕ → Cost → Type 0} {o : Outcome} {c : Cost} → All Q S (ran o c) → Q o c

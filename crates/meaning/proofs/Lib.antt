@@ -1,4 +1,4 @@
--- Theorems that rest on a definition which an edit of must-fail/ makes wrong, and what only they need. Beside them the definitions are in specs/.
+-- Theorems that rest on one which an edit of must-fail/ makes false, and the lemmas that only they need. The definitions are in specs/.
 pub mod Complete
 pub mod Sound
 pub mod Exact

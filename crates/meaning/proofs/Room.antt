@@ -7,12 +7,8 @@ use Rattle.grammar.specs.Grammar.{Grammar}
 use Rattle.meaning.specs.State.{Symbol, State, Env, others}
 use Rattle.meaning.specs.Outcome.{Outcome, pass, fail, begins, pass_if, swap, restored, closed, text as letters, matched, compared}
 use Rattle.meaning.specs.Cost.{Cost}
+use Rattle.meaning.specs.Room.{AtMost, holds, fails}
 use Rattle.meaning.specs.Rules.{Derives, symbol, empty, byte, range, any, text, seq_first, seq_both, choice_first, choice_second, star_stop, star_more, not, call, def_fail, def_pass, match, is_none_lem, is_some, isa_none, isa_some, exists, block, local, if, on}
-
--- An outcome that holds at most so many symbols.
-pub data AtMost (n : ℕ) : Outcome → Type 0 where
-  holds : {q : ℕ} {τ : State} → length τ ≤ n → AtMost n (pass q τ)
-  fails : AtMost n fail
 
 pub of_pass : {n q : ℕ} {τ : State} → AtMost n (pass q τ) → length τ ≤ n
 of_pass (holds h) = h

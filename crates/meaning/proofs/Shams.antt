@@ -1,21 +1,14 @@
 -- The shams of 01, "What the contracts settle". An answerer of each kind breaks demand 2 or demand 3, as these are stated over derivations.
 use Rattle.std.specs.Prelude.{ℕ, ◌≡◌, refl, ◌⊎◌, List, [], ◌∷◌, length, get_or}
 use Rattle.std.proofs.Common.{ap, ◌∙◌, sym, inl, inr, arith}
-use Rattle.grammar.specs.Grammar.{Grammar}
 use Rattle.format.specs.Cases.{harbour, harbour_grammar, harbour_read}
 use Rattle.meaning.specs.State.{State}
 use Rattle.meaning.specs.Outcome.{pass}
 use Rattle.meaning.specs.Kept.{kept}
-use Rattle.meaning.specs.Recognise.{Answer, Called, filled, recognise}
+use Rattle.meaning.specs.Recognise.{Answer, filled, recognise}
 use Rattle.meaning.specs.Demands.{Entered, Accepts, Demand2, Demand3}
+use Rattle.meaning.specs.Shams.{one, two, Machine, Meets2, Meets3}
 use Rattle.meaning.proofs.Demands.{demand_2, demand_3}
-
--- `A=A` and `AB=AB` against image H, with limits that are just enough.
-abbrev one : List ℕ
-one = 0x41 ∷ 0x3D ∷ 0x41 ∷ []
-
-abbrev two : List ℕ
-two = 0x41 ∷ 0x42 ∷ 0x3D ∷ 0x41 ∷ 0x42 ∷ []
 
 one_entered : Entered harbour harbour_grammar one 13 6 1 (0 ∷ 0 ∷ 0 ∷ [])
 one_entered = record {
@@ -92,20 +85,6 @@ pub invents_steps : (a : Answer) → (a.steps ≡ 17 → ⊥) → Demand2 harbou
 invents_steps a n d = makes_up_the_end a (λ h. n h.2) d
 
 -- ## The same of machines
-
--- A machine answers every image, input, limits and slots. It meets demand 2 if its answers do wherever the entry checks pass.
-pub record Machine : Type 0 where
-  pub says : (image x : List ℕ) (B D R : ℕ) (slots : List ℕ) → Called
-
-abbrev pub Meets2 : Machine → Type 0
-Meets2 m =
-    (image : List ℕ) (g : Grammar) (x : List ℕ) (B D R : ℕ) (slots : List ℕ) → Entered image g x B D R slots
-    → Demand2 g x B D R (m.says image x B D R slots).answer
-
-abbrev pub Meets3 : Machine → Type 0
-Meets3 m =
-    (image : List ℕ) (g : Grammar) (x : List ℕ) (B D R : ℕ) (slots : List ℕ) → Entered image g x B D R slots
-    → Demand3 g x B D R (m.says image x B D R slots).answer slots (m.says image x B D R slots).slots
 
 abbrev three_zeros : List ℕ
 three_zeros = 0 ∷ 0 ∷ 0 ∷ []

@@ -11,14 +11,9 @@ use Rattle.meaning.specs.State.{State, Env, visible}
 use Rattle.meaning.specs.Outcome.{Outcome, pass, fail, some}
 use Rattle.meaning.specs.Cost.{Cost, nothing, enter, ◌⊕◌}
 use Rattle.meaning.specs.Rules.{Derives, named, empty, byte, range, any, text, seq_first, seq_both, choice_first, choice_second, star_stop, star_more, not, call, def_fail, def_pass, match, is_none_lem, is_some, isa_none, isa_some, exists, block, local, if, on}
-use Rattle.meaning.specs.Limits.{Within}
 use Rattle.meaning.specs.Cut.{Cut, no_steps, no_depth, no_room, empty_round, cut_first, cut_second, cut_alternative, cut_other, cut_round, cut_later, cut_not, cut_call, cut_def, cut_is, cut_isa, cut_block, cut_local, cut_on}
-use Rattle.meaning.specs.Run.{Result, ran, refused, next, charge, after, on_pass, on_fail, if_consumed, round, rounds, stored, if_any, entered, run}
-
--- Q holds of the outcome and the cost, or S of the refusal's number, place and cost.
-pub data All (Q : Outcome → Cost → Type 0) (S : ℕ → ℕ → Cost → Type 0) : Result → Type 0 where
-  came : {o : Outcome} {c : Cost} → Q o c → All Q S (ran o c)
-  cut : {n p : ℕ} {c : Cost} → S n p c → All Q S (refused n p c)
+use Rattle.meaning.specs.Sound.{All, came, cut, Found, Answers}
+use Rattle.meaning.specs.Run.{Result, ran, next, charge, after, on_pass, on_fail, if_consumed, round, rounds, stored, if_any, entered, run}
 
 charge_all : {Q : Outcome → Cost → Type 0} {S : ℕ → ℕ → Cost → Type 0} {r : Result}
     → All (λ o c. Q o (enter c)) (λ n p c. S n p (enter c)) r → All Q S (charge r)
@@ -56,27 +51,19 @@ fail_all (came {o = fail} h) f e k = f _ h
 fail_all (cut h) f e k = cut (k _ _ _ h)
 
 module _ (g : Grammar) (x : List ℕ) (r : ℕ) where
-  -- A derivation within the limits.
-  pub record Found (d b : ℕ) (v : Env) (e : Expr) (p : ℕ) (σ : State) (o : Outcome) (c : Cost) : Type 0 where
-    pub derived : Derives g x v e p σ o c
-    pub fits : Within c d b r
-
-  abbrev pub Answers : (d b : ℕ) → Env → Expr → ℕ → State → Result → Type 0
-  Answers d b v e p σ = All (Found d b v e p σ) (Cut g x r d b v e p σ)
-
   -- One expression, whose parts are run by an f that is sound at one depth less.
   module _ (d : ℕ) (f : ℕ → Env → Expr → ℕ → State → Result)
-      (hf : (b : ℕ) (v : Env) (e : Expr) (p : ℕ) (σ : State) → Answers d b v e p σ (f b v e p σ)) where
+      (hf : (b : ℕ) (v : Env) (e : Expr) (p : ℕ) (σ : State) → Answers g x r d b v e p σ (f b v e p σ)) where
     leaf :
         {b : ℕ} {v : Env} {e : Expr} {p : ℕ} {σ : State} {o : Outcome} → Derives g x v e p σ o (enter nothing)
-        → Answers (suc d) (suc b) v e p σ (ran o (enter nothing))
+        → Answers g x r (suc d) (suc b) v e p σ (ran o (enter nothing))
     leaf D = came (record { derived = D; fits = omega arith })
 
     -- With one part inside.
     one : {b : ℕ} {v : Env} {e : Expr} {p : ℕ} {σ : State} {e' : Expr} {v' : Env} {h : Outcome → Outcome}
         → ((o : Outcome) (c : Cost) → Derives g x v' e' p σ o c → Derives g x v e p σ (h o) (enter c))
         → ((n s : ℕ) (c : Cost) → Cut g x r d b v' e' p σ n s c → Cut g x r (suc d) (suc b) v e p σ n s (enter c))
-        → Answers (suc d) (suc b) v e p σ (charge (next (f b v' e' p σ) (λ o c. ran (h o) c)))
+        → Answers g x r (suc d) (suc b) v e p σ (charge (next (f b v' e' p σ) (λ o c. ran (h o) c)))
     one rule stop =
         charge_all (next_all (hf _ _ _ _ _) (λ o c D. came (record { derived = rule o c D.derived; fits = omega arith })) stop)
 
@@ -84,24 +71,24 @@ module _ (g : Grammar) (x : List ℕ) (r : ℕ) where
     less b n = omega arith
 
     rounds_sound :
-        (v : Env) (a k b p : ℕ) (σ : State) → b ≤ k → Answers (suc d) b v (Star a) p σ (rounds (λ j q τ. f j v (node g a) q τ) k b p σ)
+        (v : Env) (a k b p : ℕ) (σ : State) → b ≤ k → Answers g x r (suc d) b v (Star a) p σ (rounds (λ j q τ. f j v (node g a) q τ) k b p σ)
     unfolding rounds
     rounds_sound v a zero zero p σ h = cut no_steps
     rounds_sound v a zero (suc b) p σ h = absurd (omega arith)
     rounds_sound v a (suc k) zero p σ h = cut no_steps
     rounds_sound v a (suc k) (suc b) p σ h = go (hf b v (node g a) p σ) (λ i q τ l. rounds_sound v a k i q τ l)
       where
-        more : {q : ℕ} {τ : State} {c : Cost} {s : Result} → Found d b v (node g a) p σ (pass q τ) c → (t : Bool) → ltb p q ≡ t
-            → Answers (suc d) (suc b - suc c.steps) v (Star a) q τ s
-            → Answers (suc d) (suc b) v (Star a) p σ (if_consumed t p (enter c) (λ u. after (enter c) s))
+        more : {q : ℕ} {τ : State} {c : Cost} {s : Result} → Found g x r d b v (node g a) p σ (pass q τ) c → (t : Bool) → ltb p q ≡ t
+            → Answers g x r (suc d) (suc b - suc c.steps) v (Star a) q τ s
+            → Answers g x r (suc d) (suc b) v (Star a) p σ (if_consumed t p (enter c) (λ u. after (enter c) s))
         more {q} {τ} {c} D true e E = after_all _ E
             (λ o c F. record { derived = star_more D.derived (ltb-true _ _ e) F.derived; fits = omega arith })
             (λ n s e' K. cut_later D.derived D.fits (ltb-true _ _ e) (rw (less b c.steps) at K))
         more {q} D false e E = cut (empty_round D.derived D.fits (ltb-false p q e))
 
-        go : {s : Result} → Answers d b v (node g a) p σ s
-            → ((i q : ℕ) (τ : State) → i ≤ k → Answers (suc d) i v (Star a) q τ (rounds (λ j q τ. f j v (node g a) q τ) k i q τ))
-            → Answers (suc d) (suc b) v (Star a) p σ
+        go : {s : Result} → Answers g x r d b v (node g a) p σ s
+            → ((i q : ℕ) (τ : State) → i ≤ k → Answers g x r (suc d) i v (Star a) q τ (rounds (λ j q τ. f j v (node g a) q τ) k i q τ))
+            → Answers g x r (suc d) (suc b) v (Star a) p σ
             (next (charge s) (round p σ (λ q τ c. after c (rounds (λ j q τ. f j v (node g a) q τ) k (suc b - c.steps) q τ))))
         go (came {o = pass q τ} {c = c} D) ih = more D (ltb p q) refl (ih (suc b - suc c.steps) q τ (omega arith))
         go (came {o = fail} D) ih = came (record { derived = star_stop D.derived; fits = omega arith })
@@ -112,11 +99,11 @@ module _ (g : Grammar) (x : List ℕ) (r : ℕ) where
         → (t ≡ false → Derives g x v e p σ fail (enter nothing))
         → (t ≡ true → (o : Outcome) (c : Cost) → Derives g x v e' p σ o c → Derives g x v e p σ (h o) (enter c))
         → (t ≡ true → (n s : ℕ) (c : Cost) → Cut g x r d b v e' p σ n s c → Cut g x r (suc d) (suc b) v e p σ n s (enter c))
-        → Answers (suc d) (suc b) v e p σ (charge (if_any g x r t (λ u. next (f b v e' p σ) (λ o c. ran (h o) c))))
+        → Answers g x r (suc d) (suc b) v e p σ (charge (if_any g x r t (λ u. next (f b v e' p σ) (λ o c. ran (h o) c))))
     look true none rule stop = one (rule refl) (stop refl)
     look false none rule stop = leaf (none refl)
 
-    entered_sound : (b : ℕ) (v : Env) (e : Expr) (p : ℕ) (σ : State) → Answers (suc d) (suc b) v e p σ (entered g x r f b v e p σ)
+    entered_sound : (b : ℕ) (v : Env) (e : Expr) (p : ℕ) (σ : State) → Answers g x r (suc d) (suc b) v e p σ (entered g x r f b v e p σ)
     entered_sound b v Empty p σ = leaf empty
     entered_sound b v (Byte n) p σ = leaf byte
     entered_sound b v (Range lo hi) p σ = leaf range
@@ -143,8 +130,8 @@ module _ (g : Grammar) (x : List ℕ) (r : ℕ) where
         (λ c D. record { derived = def_fail D.derived; fits = omega arith })
         (λ n s c. cut_def))
       where
-        store : {q : ℕ} {τ : State} {c : Cost} (k : Bool) → ltb (length σ) r ≡ k → Found d b v (named g t) p σ (pass q τ) c
-            → All (λ o c. Found (suc d) (suc b) v (Def t) p σ o (enter c))
+        store : {q : ℕ} {τ : State} {c : Cost} (k : Bool) → ltb (length σ) r ≡ k → Found g x r d b v (named g t) p σ (pass q τ) c
+            → All (λ o c. Found g x r (suc d) (suc b) v (Def t) p σ o (enter c))
             (λ n s c. Cut g x r (suc d) (suc b) v (Def t) p σ n s (enter c)) (stored g x r k t p σ q c)
         store true e D = came (record { derived = def_pass D.derived; fits = omega (arith, ltb-true (length σ) r e) })
         store false e D = cut (no_room D.derived D.fits (ltb-false (length σ) r e))
@@ -157,7 +144,7 @@ module _ (g : Grammar) (x : List ℕ) (r : ℕ) where
     entered_sound b v (If k w) p σ = leaf if
     entered_sound b v (On k w i) p σ = one (λ o c. on) (λ n s c. cut_on)
 
-  pub sound : (d b : ℕ) (v : Env) (e : Expr) (p : ℕ) (σ : State) → Answers d b v e p σ (run g x r d b v e p σ)
+  pub sound : (d b : ℕ) (v : Env) (e : Expr) (p : ℕ) (σ : State) → Answers g x r d b v e p σ (run g x r d b v e p σ)
   unfolding run
   sound zero zero v e p σ = cut no_steps
   sound zero (suc b) v e p σ = cut no_depth

@@ -1,5 +1,5 @@
 -- The meaning of a grammar: what a reader must believe, and theorems about it.
--- What rests on a definition that an edit of must-fail/ makes wrong is in proofs/, the three demands among it.
+-- Theorems that rest on one which an edit of must-fail/ makes false are in proofs/, those of the three demands among them.
 pub mod State
 pub mod Outcome
 pub mod Cost
@@ -12,14 +12,18 @@ pub mod Run
 pub mod Recognise
 pub mod RunLaws
 pub mod Complete
+pub mod Sound
 pub mod Exact
 pub mod Unique
 pub mod Counted
+pub mod Remain
 pub mod Forward
+pub mod Room
 pub mod Scopes
 pub mod Pilot
 pub mod Inside
 pub mod SlotLaws
 pub mod Demands
 pub mod Cases
+pub mod Shams
 pub mod Trials

@@ -15,7 +15,7 @@ use Rattle.compiler.specs.declared.image.Compiled.TheVariants.{Written, Refused}
 
 pub record Compiles (text before after : List ℕ) (r : Compiled) : Type 0 where
   -- What is said of the text for the room that the buffer gives (`Says` in `notation`), and what is given for it: the image at the buffer's front, with
-  -- what lies past it was; or number and place, and the buffer as it was. This settles every call, and what follows says it again in other words.
+  -- what lies past it as it was; or number and place, and the buffer as it was. This settles every call, and what follows says it again in other words.
   pub is : compiler.Compiles text before after r
   -- An image is written exactly if the text is at most 65,535 bytes, the notation derives it, its names keep the rules, 01's limits hold, and the image of
   -- its grammar fits the buffer.
