@@ -30,9 +30,9 @@ is_piece : {A : Type 0} (o : Piece (List A)) {r : List ℕ} → behind o ≡ som
 is_piece (piece x r) e = ap (piece x) (cc)
 is_piece no e = no_way (cc)
 
-is_none_lem : {A : Type 0} (o : Piece (List A)) → behind o ≡ none → o ≡ no
-is_none_lem (piece x r) e = no_way (cc)
-is_none_lem no e = refl
+is_none : {A : Type 0} (o : Piece (List A)) → behind o ≡ none → o ≡ no
+is_none (piece x r) e = no_way (cc)
+is_none no e = refl
 
 there_cons : {A : Type 0} (x : A) (o : Piece (List A)) → There (x ∷ᵖ o) → There o
 unfolding ◌∷ᵖ◌
@@ -139,7 +139,7 @@ module _ {A : Type 0} {one : List ℕ → Piece A} {stop : ℕ} {row : List ℕ 
 
       module _ (k : get_or text i 0 ≡ stop → ⊥) {m : ℕ} {x : A} {n : ℕ} (r : Reads (one (drop i text)) m x text i n) where
         pub passed_fails : m ≡ 256 → row (drop from text) ≡ no
-        passed_fails z = is_none_lem (row (drop from text)) (p.rest ∙ ap behind (row_fails law text i h k r z))
+        passed_fails z = is_none (row (drop from text)) (p.rest ∙ ap behind (row_fails law text i h k r z))
 
         pub passed_on : m < 256 → Passed law text from n
         passed_on z = record {
@@ -148,7 +148,7 @@ module _ {A : Type 0} {one : List ℕ → Piece A} {stop : ℕ} {row : List ℕ 
         }
 
     pub passed_over : length text ≤ i → row (drop from text) ≡ no
-    passed_over h = is_none_lem (row (drop from text)) (p.rest ∙ ap behind (row_over law text i h))
+    passed_over h = is_none (row (drop from text)) (p.rest ∙ ap behind (row_over law text i h))
 
   module _ {whole : List A} {i n : ℕ} (c : Counted law text whole i n) where
     pub counted_inside : i < length text

@@ -35,7 +35,7 @@ module _ {text heads roots tables switches : List ℕ} {start : ℕ} (n : Number
         few_tables = listed_tables l;
         few_switches = listed_switches l;
         short_texts = h.short_texts;
-        all_defined_lem = h.all_defined_lem;
+        names_defined = h.names_defined;
         heads_are = l.heads_are;
         roots_are = n.each;
         tables_are = l.tables_are;

@@ -40,7 +40,7 @@ module _ {text : List ℕ} {ps : List Production} (p : Passes text ps) where
   few_heads = rw (heads_gathered p.reading) (omega (arith, names_few))
 
   pub few_defs : length (gathered def_of [] (lexemes text)) < 9
-  few_defs = rw (tables_gathered p.reading (held p).all_defined_lem) (omega (arith, tables_few))
+  few_defs = rw (tables_gathered p.reading (held p).names_defined) (omega (arith, tables_few))
 
   pub few_switches : length (gathered switch_of [] (lexemes text)) < 9
   few_switches = rw (conditions_gathered p.reading) (omega (arith, switches_few))

@@ -104,9 +104,9 @@ module _ (text : List ℕ) (ps : List Production) (room : ℕ) where
 -- ## What holds where the rules let pass
 
 pub record Held (ps : List Production) : Type 0 where
-  pub all_defined_lem : all_defined ps ≡ true
-  pub once_named_lem : once_named ps ≡ true
-  pub one_pattern_lem : one_pattern ps ≡ true
+  pub names_defined : all_defined ps ≡ true
+  pub names_once : once_named ps ≡ true
+  pub patterns_one : one_pattern ps ≡ true
   pub few_tables : G.tables (compile ps) ≤ 8
   pub few_conditions : (compile ps).conditions ≤ 8
   pub short_texts : all (λ b. b) (everywhere (per_leaf short) ps) ≡ true
@@ -122,9 +122,9 @@ held {text} {ps} p =
     let P : Productions (bare ls) ps = reading p.reading in
     let a : all_defined ps ≡ true = sym (defined_place ls P) ∙ n.0 in
     record {
-      all_defined_lem = a;
-      once_named_lem = sym (once_place ls P) ∙ n.1;
-      one_pattern_lem = sym (pattern_place ls P) ∙ n.2;
+      names_defined = a;
+      names_once = sym (once_place ls P) ∙ n.1;
+      patterns_one = sym (pattern_place ls P) ∙ n.2;
       few_tables = leb-true (G.tables (compile ps)) 8 (sym (tables_place ls P a) ∙ n.3);
       few_conditions = leb-true (compile ps).conditions 8 (sym (conditions_place ls P) ∙ n.4);
       short_texts = sym (texts_place ls P) ∙ n.5;

@@ -337,7 +337,7 @@ module _
         nodes_written = G.shown.holds.front ∙ ap (written encode_node) nodes_are;
         length-written = G.shown.holds.place ∙ ap bytes_of nodes_are;
         nodes_many = G.shown.holds.many ∙ ap length nodes_are;
-        patterns_are = patterns_found G.ready.productions patterns G.ready.all_defined_lem known_are;
+        patterns_are = patterns_found G.ready.productions patterns G.ready.names_defined known_are;
         ends_are = λ i h.
             let qs = nodes_up_to 0 G.ready.productions in
             let f : ℕ → ℕ = λ n. bytes_of (take n (compile G.ready.productions).nodes) in

@@ -22,20 +22,20 @@ module _ (text : List ℕ) (ts : List Name) (was : List ℕ) (t : Token) where
   name = name_at text t.name
 
   module _ (e : t.symbol ≡ 10) where
-    is_def_lem : opener_at text t ≡ def name
+    is_def : opener_at text t ≡ def name
     unfolding opener_at
-    is_def_lem = rw e
+    is_def = rw e
 
     pub def_tabled : Tabled ts (opener_at text t) → member name ts ≡ true
-    def_tabled h = rw is_def_lem at h
+    def_tabled h = rw is_def at h
 
     pub marks_first : (now : List ℕ) → length now ≡ length was → Begins was ts name now true → Marks text ts was t now 9
     unfolding opener_of brought_of
     marks_first now l b = record {
       low = omega arith;
-      opener = sym is_def_lem;
-      brought = λ f T. rw (is_def_lem, ← (b f T).0);
-      tells = λ f T. rw (is_def_lem, ← (b f T).0) (b f T).1;
+      opener = sym is_def;
+      brought = λ f T. rw (is_def, ← (b f T).0);
+      tells = λ f T. rw (is_def, ← (b f T).0) (b f T).1;
       long = l;
     }
 
@@ -43,9 +43,9 @@ module _ (text : List ℕ) (ts : List Name) (was : List ℕ) (t : Token) where
     unfolding opener_of brought_of
     marks_later now l b = record {
       low = omega arith;
-      opener = sym is_def_lem;
-      brought = λ f T. rw (is_def_lem, ← (b f T).0);
-      tells = λ f T. rw (is_def_lem, ← (b f T).0) (b f T).1;
+      opener = sym is_def;
+      brought = λ f T. rw (is_def, ← (b f T).0);
+      tells = λ f T. rw (is_def, ← (b f T).0) (b f T).1;
       long = l;
     }
 

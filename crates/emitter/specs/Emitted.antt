@@ -23,7 +23,7 @@ pub record Ready (text heads roots tables switches : List ℕ) : Type 0 where
   pub few_tables : length tables ≤ 8
   pub few_switches : length switches ≤ 8
   pub short_texts : all (λ b. b) (everywhere (per_leaf short) productions) ≡ true
-  pub all_defined_lem : all_defined productions ≡ true
+  pub names_defined : all_defined productions ≡ true
   pub heads_are : names_of text heads ≡ sorted (names productions)
   pub roots_are : (n : Name) → production_by text heads roots n ≡ entry n (Compile.roots 0 productions)
   pub tables_are : names_of text tables ≡ sorted (Naming.tables productions)

@@ -45,11 +45,11 @@ module _ (n : Name) where
   goes_in (m ∷ ms) zero a b = insert_lower n m ms b.0
   goes_in (m ∷ ms) (suc i) a b = insert_higher n m ms a.0 ∙ ap (λ r. m ∷ r) (goes_in ms i a.1 b)
 
-  is_none_lem : (ns : List Name) (i : ℕ) → Above n (take i ns) → Below n (drop i ns) → member n ns ≡ false
+  is_none : (ns : List Name) (i : ℕ) → Above n (take i ns) → Below n (drop i ns) → member n ns ≡ false
   unfolding member
-  is_none_lem [] i a b = refl
-  is_none_lem (m ∷ ms) zero a b = below_member n (m ∷ ms) b
-  is_none_lem (m ∷ ms) (suc i) a b = rw (not_same_higher n m a.0) (is_none_lem ms i a.1 b)
+  is_none [] i a b = refl
+  is_none (m ∷ ms) zero a b = below_member n (m ∷ ms) b
+  is_none (m ∷ ms) (suc i) a b = rw (not_same_higher n m a.0) (is_none ms i a.1 b)
 
   comes_at : (ns : List Name) (i : ℕ) → i ≤ length ns → Above n (take i ns) → place n (take i ns ++ n ∷ drop i ns) ≡ i
   unfolding place
@@ -63,7 +63,7 @@ module _ (n : Name) where
     belongs_insert = goes_in ns i b.before b.behind
 
     pub belongs_member : member n ns ≡ false
-    belongs_member = is_none_lem ns i b.before b.behind
+    belongs_member = is_none ns i b.before b.behind
 
     pub belongs_place : place n (insert n ns) ≡ i
     belongs_place = ap (place n) belongs_insert ∙ comes_at ns i b.within b.before

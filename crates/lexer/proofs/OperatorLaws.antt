@@ -17,7 +17,7 @@ use Rattle.notation.specs.Lexer.{Piece, piece, no, ◌then◌, Word, operator, p
 use Rattle.notation.specs.LexicalToken.{token_of}
 use Rattle.notation.specs.At.{name_at}
 use Rattle.notation.specs.Places.{behind_truth, name_in}
-use Rattle.lexer.specs.Words.{Worded, is_match, is_is, is_isa, is_exists, is_if, is_def_lem, is_block, is_local, is_on, is_unknown}
+use Rattle.lexer.specs.Words.{Worded, is_match, is_is, is_isa, is_exists, is_if, is_def, is_block, is_local, is_on, is_unknown}
 use Rattle.lexer.specs.declared.token.Token.{Token}
 use Rattle.lexer.specs.Meant.{leaf_at, opener_at, meant}
 use Rattle.lexer.specs.Names.{Stands}
@@ -50,7 +50,7 @@ steps is_is h s = refl
 steps is_isa h s = refl
 steps is_exists h s = refl
 steps is_if h s = refl
-steps is_def_lem h s = refl
+steps is_def h s = refl
 steps is_block h s = refl
 steps is_local h s = refl
 steps is_on h s = refl
@@ -87,7 +87,7 @@ low is_is = omega arith
 low is_isa = omega arith
 low is_exists = omega arith
 low is_if = omega arith
-low is_def_lem = omega arith
+low is_def = omega arith
 low is_block = omega arith
 low is_local = omega arith
 low is_on = omega arith
@@ -101,7 +101,7 @@ no_word is_is h s = absurd (omega arith)
 no_word is_isa h s = absurd (omega arith)
 no_word is_exists h s = absurd (omega arith)
 no_word is_if h s = absurd (omega arith)
-no_word is_def_lem h s = absurd (omega arith)
+no_word is_def h s = absurd (omega arith)
 no_word is_block h s = absurd (omega arith)
 no_word is_local h s = absurd (omega arith)
 no_word is_on h s = absurd (omega arith)

@@ -22,7 +22,7 @@ pub data Worded : Word → ℕ → Type 0 where
   is_isa : Worded (asks isa) 7
   is_exists : Worded (asks exists) 8
   is_if : Worded ifs 9
-  is_def_lem : Worded (opener def) 10
+  is_def : Worded (opener def) 10
   is_block : Worded (opener block) 11
   is_local : Worded (opener local) 12
   is_on : Worded ons 13

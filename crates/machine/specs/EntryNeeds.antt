@@ -147,8 +147,8 @@ among_one x bytes s = go (same bytes (text x s))
     go false = refl
 
 -- A symbol below the held is the same where nothing below them was written.
-pub same_symbol_lem : {held : ℕ} {before after : List ℕ} → Below held before after → (k : ℕ) → k < held → symbol_at after k ≡ symbol_at before k
-same_symbol_lem f k l =
+pub same_symbol : {held : ℕ} {before after : List ℕ} → Below held before after → (k : ℕ) → k < held → symbol_at after k ≡ symbol_at before k
+same_symbol f k l =
     cc (f.same (k * 3) (omega arith), f.same (k * 3 + 1) (omega arith), f.same (k * 3 + 2) (omega arith))
 
 pub is_test : (x : List ℕ) (at end : ℕ) {list : Symbols} {s s' : Symbol} (l : Symbols) → s' ≡ s → list ≡ s ∷ l

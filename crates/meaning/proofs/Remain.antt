@@ -11,7 +11,7 @@ use Rattle.grammar.specs.Grammar.{Grammar}
 use Rattle.meaning.specs.State.{State, Env, others}
 use Rattle.meaning.specs.Outcome.{Outcome, pass, fail, begins, pass_if, swap, restored, closed, text as letters, matched, among, compared}
 use Rattle.meaning.specs.Cost.{Cost}
-use Rattle.meaning.specs.Rules.{Derives, empty, byte, range, any, text, seq_first, seq_both, choice_first, choice_second, star_stop, star_more, not, call, def_fail, def_pass, match, is_none_lem, is_some, isa_none, isa_some, exists, block, local, if, on}
+use Rattle.meaning.specs.Rules.{Derives, empty, byte, range, any, text, seq_first, seq_both, choice_first, choice_second, star_stop, star_more, not, call, def_fail, def_pass, match, is_none, is_some, isa_none, isa_some, exists, block, local, if, on}
 use Rattle.meaning.specs.Kept.{kept}
 use Rattle.meaning.specs.Remain.{Ends, held, failed}
 
@@ -74,7 +74,7 @@ module _ (g : Grammar) (x : List ℕ) where
   remain (def_fail D) = failed
   remain (def_pass D) = held refl
   remain match = ends_matched _ _ _
-  remain (is_none_lem h) = failed
+  remain (is_none h) = failed
   remain (is_some h D) = ends_compared _ _ _ _
   remain (isa_none h) = failed
   remain (isa_some h D) = ends_compared _ _ _ _

@@ -8,7 +8,7 @@ use Rattle.meaning.specs.State.{Symbol, State, Env, others}
 use Rattle.meaning.specs.Outcome.{Outcome, pass, fail, begins, pass_if, swap, restored, closed, text as letters, matched, compared}
 use Rattle.meaning.specs.Cost.{Cost}
 use Rattle.meaning.specs.Room.{AtMost, holds, fails}
-use Rattle.meaning.specs.Rules.{Derives, symbol, empty, byte, range, any, text, seq_first, seq_both, choice_first, choice_second, star_stop, star_more, not, call, def_fail, def_pass, match, is_none_lem, is_some, isa_none, isa_some, exists, block, local, if, on}
+use Rattle.meaning.specs.Rules.{Derives, symbol, empty, byte, range, any, text, seq_first, seq_both, choice_first, choice_second, star_stop, star_more, not, call, def_fail, def_pass, match, is_none, is_some, isa_none, isa_some, exists, block, local, if, on}
 
 pub of_pass : {n q : ℕ} {τ : State} → AtMost n (pass q τ) → length τ ≤ n
 of_pass (holds h) = h
@@ -86,7 +86,7 @@ module _ (g : Grammar) (x : List ℕ) where
   room_enough (def_fail D) = fails
   room_enough (def_pass {t = t} {p = p} {q = q} {σ = σ} {c = c} D) = holds (stored σ (symbol t p q) c)
   room_enough match = matched_most _ _ _ _ (omega arith)
-  room_enough (is_none_lem h) = fails
+  room_enough (is_none h) = fails
   room_enough (is_some {σ = σ} {c = c} h D) = compared_most _ _ _ _ _ (more σ c)
   room_enough (isa_none h) = fails
   room_enough (isa_some {σ = σ} {c = c} h D) = compared_most _ _ _ _ _ (more σ c)

@@ -10,7 +10,7 @@ use Rattle.grammar.specs.Grammar.{Grammar, node}
 use Rattle.meaning.specs.State.{State, Env, visible}
 use Rattle.meaning.specs.Outcome.{Outcome, pass, fail, some}
 use Rattle.meaning.specs.Cost.{Cost, nothing, enter, ◌⊕◌}
-use Rattle.meaning.specs.Rules.{Derives, named, empty, byte, range, any, text, seq_first, seq_both, choice_first, choice_second, star_stop, star_more, not, call, def_fail, def_pass, match, is_none_lem, is_some, isa_none, isa_some, exists, block, local, if, on}
+use Rattle.meaning.specs.Rules.{Derives, named, empty, byte, range, any, text, seq_first, seq_both, choice_first, choice_second, star_stop, star_more, not, call, def_fail, def_pass, match, is_none, is_some, isa_none, isa_some, exists, block, local, if, on}
 use Rattle.meaning.specs.Cut.{Cut, no_steps, no_depth, no_room, empty_round, cut_first, cut_second, cut_alternative, cut_other, cut_round, cut_later, cut_not, cut_call, cut_def, cut_is, cut_isa, cut_block, cut_local, cut_on}
 use Rattle.meaning.specs.Sound.{All, came, cut, Found, Answers}
 use Rattle.meaning.specs.Run.{Result, ran, next, charge, after, on_pass, on_fail, if_consumed, round, rounds, stored, if_any, entered, run}
@@ -136,7 +136,7 @@ module _ (g : Grammar) (x : List ℕ) (r : ℕ) where
         store true e D = came (record { derived = def_pass D.derived; fits = omega (arith, ltb-true (length σ) r e) })
         store false e D = cut (no_room D.derived D.fits (ltb-false (length σ) r e))
     entered_sound b v (Match t) p σ = leaf match
-    entered_sound b v (Is t) p σ = look (some (visible v t σ)) (λ e. is_none_lem e) (λ e o c. is_some e) (λ e n s c. cut_is e)
+    entered_sound b v (Is t) p σ = look (some (visible v t σ)) (λ e. is_none e) (λ e o c. is_some e) (λ e n s c. cut_is e)
     entered_sound b v (Isa t) p σ = look (some (visible v t σ)) (λ e. isa_none e) (λ e o c. isa_some e) (λ e n s c. cut_isa e)
     entered_sound b v (Exists t) p σ = leaf exists
     entered_sound b v (Block t i) p σ = one (λ o c. block) (λ n s c. cut_block)

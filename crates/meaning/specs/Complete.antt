@@ -6,7 +6,7 @@ use Rattle.grammar.specs.Grammar.{Grammar, node}
 use Rattle.meaning.specs.State.{State, Env}
 use Rattle.meaning.specs.Outcome.{Outcome}
 use Rattle.meaning.specs.Cost.{Cost, enter, ◌⊕◌, holding}
-use Rattle.meaning.specs.Rules.{Derives, empty, byte, range, any, text, seq_first, seq_both, choice_first, choice_second, star_stop, star_more, not, call, def_fail, def_pass, match, is_none_lem, is_some, isa_none, isa_some, exists, block, local, if, on}
+use Rattle.meaning.specs.Rules.{Derives, empty, byte, range, any, text, seq_first, seq_both, choice_first, choice_second, star_stop, star_more, not, call, def_fail, def_pass, match, is_none, is_some, isa_none, isa_some, exists, block, local, if, on}
 use Rattle.meaning.specs.Limits.{Within}
 use Rattle.meaning.specs.Run.{ran, next, charge, after, round, entered, run}
 use Rattle.meaning.specs.RunLaws.{entry, star_round}
@@ -57,7 +57,7 @@ module _ (g : Grammar) (x : List ℕ) (r : ℕ) where
   complete (def_fail D) d b w = rw (opened w, complete D _ _ (inner w))
   complete (def_pass {σ = σ} {c = c} D) d b w = rw (opened w, complete D _ _ (first c (holding σ) w), lt-ltb (length σ) r (omega arith))
   complete match d b w = opened w _ _ _ _
-  complete (is_none_lem h) d b w = rw (opened w, h)
+  complete (is_none h) d b w = rw (opened w, h)
   complete (is_some h D) d b w = rw (opened w, h, complete D _ _ (inner w))
   complete (isa_none h) d b w = rw (opened w, h)
   complete (isa_some h D) d b w = rw (opened w, h, complete D _ _ (inner w))

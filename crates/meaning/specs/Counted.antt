@@ -8,7 +8,7 @@ use Rattle.grammar.specs.Grammar.{Grammar}
 use Rattle.meaning.specs.State.{State, Env}
 use Rattle.meaning.specs.Outcome.{Outcome}
 use Rattle.meaning.specs.Cost.{Cost}
-use Rattle.meaning.specs.Rules.{Derives, empty, byte, range, any, text, seq_first, seq_both, choice_first, choice_second, star_stop, star_more, not, call, def_fail, def_pass, match, is_none_lem, is_some, isa_none, isa_some, exists, block, local, if, on}
+use Rattle.meaning.specs.Rules.{Derives, empty, byte, range, any, text, seq_first, seq_both, choice_first, choice_second, star_stop, star_more, not, call, def_fail, def_pass, match, is_none, is_some, isa_none, isa_some, exists, block, local, if, on}
 use Rattle.meaning.specs.Steps.{used}
 
 module _ (g : Grammar) (x : List ℕ) where
@@ -30,7 +30,7 @@ module _ (g : Grammar) (x : List ℕ) where
   counted (def_fail D) = ap suc (counted D)
   counted (def_pass D) = omega (arith, counted D)
   counted match = refl
-  counted (is_none_lem h) = refl
+  counted (is_none h) = refl
   counted (is_some h D) = ap suc (counted D)
   counted (isa_none h) = refl
   counted (isa_some h D) = ap suc (counted D)

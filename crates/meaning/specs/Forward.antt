@@ -7,7 +7,7 @@ use Rattle.grammar.specs.Grammar.{Grammar}
 use Rattle.meaning.specs.State.{State, Env}
 use Rattle.meaning.specs.Outcome.{Outcome, pass, fail, ◌and◌, same, begins, some, in_range, pass_if, swap, restored, closed, text as letters, matched, compared}
 use Rattle.meaning.specs.Cost.{Cost}
-use Rattle.meaning.specs.Rules.{Derives, empty, byte, range, any, text, seq_first, seq_both, choice_first, choice_second, star_stop, star_more, not, call, def_fail, def_pass, match, is_none_lem, is_some, isa_none, isa_some, exists, block, local, if, on}
+use Rattle.meaning.specs.Rules.{Derives, empty, byte, range, any, text, seq_first, seq_both, choice_first, choice_second, star_stop, star_more, not, call, def_fail, def_pass, match, is_none, is_some, isa_none, isa_some, exists, block, local, if, on}
 
 pub same_length : (a b : List ℕ) → same a b ≡ true → length a ≡ length b
 same_length [] [] e = refl
@@ -94,7 +94,7 @@ module _ (g : Grammar) (x : List ℕ) where
   forward (def_fail D) h = stuck
   forward (def_pass D) h = let i = ahead_pass (forward D h) in ahead i.0 i.1
   forward match h = ahead_matched _ _ _ h
-  forward (is_none_lem e) h = stuck
+  forward (is_none e) h = stuck
   forward (is_some e D) h = ahead_compared _ _ (forward D h)
   forward (isa_none e) h = stuck
   forward (isa_some e D) h = ahead_compared _ _ (forward D h)

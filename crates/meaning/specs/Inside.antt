@@ -11,7 +11,7 @@ use Rattle.meaning.specs.State.{Symbol, State, Env}
 use Rattle.meaning.specs.Outcome.{Outcome}
 use Rattle.meaning.specs.Cost.{Cost, enter, ◌⊕◌}
 use Rattle.meaning.specs.Limits.{Within}
-use Rattle.meaning.specs.Rules.{Derives, empty, byte, range, any, text, seq_first, seq_both, choice_first, choice_second, star_stop, star_more, not, call, def_fail, def_pass, match, is_none_lem, is_some, isa_none, isa_some, exists, block, local, if, on}
+use Rattle.meaning.specs.Rules.{Derives, empty, byte, range, any, text, seq_first, seq_both, choice_first, choice_second, star_stop, star_more, not, call, def_fail, def_pass, match, is_none, is_some, isa_none, isa_some, exists, block, local, if, on}
 use Rattle.meaning.specs.Cut.{Cut, no_steps, no_depth, no_room, empty_round, cut_first, cut_second, cut_alternative, cut_other, cut_round, cut_later, cut_not, cut_call, cut_def, cut_is, cut_isa, cut_block, cut_local, cut_on}
 use Rattle.meaning.specs.Kept.{kept}
 use Rattle.meaning.specs.Forward.{forward, ahead_pass}
@@ -53,7 +53,7 @@ module _ (g : Grammar) (x : List ℕ) where
       let i = ahead_pass (forward g x D h) in
       subst (Part (length x)) (sym (Memᴰ.eq_of_singleton m)) (record { ordered = i.0; inside = i.1 })
   kept_inside match h s m = elim m [ ]
-  kept_inside (is_none_lem e) h s m = elim m [ ]
+  kept_inside (is_none e) h s m = elim m [ ]
   kept_inside (is_some e D) h s m = elim m [ ]
   kept_inside (isa_none e) h s m = elim m [ ]
   kept_inside (isa_some e D) h s m = elim m [ ]

@@ -6,7 +6,7 @@ use Rattle.grammar.specs.Grammar.{Grammar}
 use Rattle.meaning.specs.State.{State, Env, others}
 use Rattle.meaning.specs.Outcome.{Outcome}
 use Rattle.meaning.specs.Cost.{Cost}
-use Rattle.meaning.specs.Rules.{Derives, symbol, empty, byte, range, any, text, seq_first, seq_both, choice_first, choice_second, star_stop, star_more, not, call, def_fail, def_pass, match, is_none_lem, is_some, isa_none, isa_some, exists, block, local, if, on}
+use Rattle.meaning.specs.Rules.{Derives, symbol, empty, byte, range, any, text, seq_first, seq_both, choice_first, choice_second, star_stop, star_more, not, call, def_fail, def_pass, match, is_none, is_some, isa_none, isa_some, exists, block, local, if, on}
 
 module _ (g : Grammar) (x : List ℕ) where
   unfoldable pub kept : {v : Env} {e : Expr} {p : ℕ} {σ : State} {o : Outcome} {c : Cost} → Derives g x v e p σ o c → State
@@ -30,7 +30,7 @@ module _ (g : Grammar) (x : List ℕ) where
   -- the inside of a name pattern,
   kept (def_pass {t = t} {p = p} {q = q} D) = symbol t p q ∷ []
   kept match = []
-  kept (is_none_lem h) = []
+  kept (is_none h) = []
   kept (is_some h D) = []
   kept (isa_none h) = []
   kept (isa_some h D) = []

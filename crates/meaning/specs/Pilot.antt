@@ -10,7 +10,7 @@ use Rattle.grammar.specs.Grammar.{Grammar, node}
 use Rattle.meaning.specs.State.{Symbol, State, Env, of_table, others, visible}
 use Rattle.meaning.specs.Outcome.{Outcome, pass, fail, swap}
 use Rattle.meaning.specs.Cost.{Cost, enter}
-use Rattle.meaning.specs.Rules.{Derives, symbol, empty, byte, range, any, text, seq_first, seq_both, choice_first, choice_second, star_stop, star_more, not, call, def_fail, def_pass, match, is_none_lem, is_some, isa_none, isa_some, exists, block, local, if, on}
+use Rattle.meaning.specs.Rules.{Derives, symbol, empty, byte, range, any, text, seq_first, seq_both, choice_first, choice_second, star_stop, star_more, not, call, def_fail, def_pass, match, is_none, is_some, isa_none, isa_some, exists, block, local, if, on}
 use Rattle.meaning.specs.Kept.{kept}
 
 module _ (g : Grammar) (x : List ℕ) where
@@ -126,7 +126,7 @@ module _ (g : Grammar) (x : List ℕ) where
   made (def_fail D) = made D
   made (def_pass {t = t} {p = p} {q = q} D) = made D ++ (symbol t p q ∷ [])
   made match = []
-  made (is_none_lem h) = []
+  made (is_none h) = []
   made (is_some h D) = made D
   made (isa_none h) = []
   made (isa_some h D) = made D
@@ -156,7 +156,7 @@ module _ (g : Grammar) (x : List ℕ) where
   kept_made (def_fail D) s m = none m
   kept_made (def_pass D) s m = in_right (made D) _ m
   kept_made match s m = m
-  kept_made (is_none_lem h) s m = m
+  kept_made (is_none h) s m = m
   kept_made (is_some h D) s m = none m
   kept_made (isa_none h) s m = m
   kept_made (isa_some h D) s m = none m

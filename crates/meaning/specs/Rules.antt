@@ -53,7 +53,7 @@ module _ (g : Grammar) (x : List ℕ) where
         → Derives v (named g t) p σ (pass q τ) c → Derives v (Def t) p σ (pass q (σ ++ (symbol t p q ∷ []))) (enter (c ⊕ holding σ))
     match : {v : Env} {t p : ℕ} {σ : State} → Derives v (Match t) p σ (matched x p σ (visible v t σ)) (enter nothing)
     -- Is: "fails on an empty list without running the pattern"; else with the latest symbol, and Isa with some symbol.
-    is_none_lem : {v : Env} {t p : ℕ} {σ : State}
+    is_none : {v : Env} {t p : ℕ} {σ : State}
         → some (visible v t σ) ≡ false → Derives v (Is t) p σ fail (enter nothing)
     is_some : {v : Env} {t p : ℕ} {σ : State} {o : Outcome} {c : Cost}
         → some (visible v t σ) ≡ true → Derives v (named g t) p σ o c

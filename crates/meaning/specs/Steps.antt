@@ -6,7 +6,7 @@ use Rattle.grammar.specs.Grammar.{Grammar}
 use Rattle.meaning.specs.State.{State, Env}
 use Rattle.meaning.specs.Outcome.{Outcome}
 use Rattle.meaning.specs.Cost.{Cost}
-use Rattle.meaning.specs.Rules.{Derives, empty, byte, range, any, text, seq_first, seq_both, choice_first, choice_second, star_stop, star_more, not, call, def_fail, def_pass, match, is_none_lem, is_some, isa_none, isa_some, exists, block, local, if, on}
+use Rattle.meaning.specs.Rules.{Derives, empty, byte, range, any, text, seq_first, seq_both, choice_first, choice_second, star_stop, star_more, not, call, def_fail, def_pass, match, is_none, is_some, isa_none, isa_some, exists, block, local, if, on}
 use Rattle.meaning.specs.Cut.{Cut, no_steps, no_depth, no_room, empty_round, cut_first, cut_second, cut_alternative, cut_other, cut_round, cut_later, cut_not, cut_call, cut_def, cut_is, cut_isa, cut_block, cut_local, cut_on}
 
 module _ (g : Grammar) (x : List ℕ) where
@@ -27,7 +27,7 @@ module _ (g : Grammar) (x : List ℕ) where
   used (def_fail D) = suc (used D)
   used (def_pass D) = suc (used D)
   used match = 1
-  used (is_none_lem h) = 1
+  used (is_none h) = 1
   used (is_some h D) = suc (used D)
   used (isa_none h) = 1
   used (isa_some h D) = suc (used D)

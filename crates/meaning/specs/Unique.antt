@@ -8,7 +8,7 @@ use Rattle.grammar.specs.Grammar.{Grammar, node}
 use Rattle.meaning.specs.State.{State, Env, visible}
 use Rattle.meaning.specs.Outcome.{Outcome, pass, fail, swap, restored, closed, compared}
 use Rattle.meaning.specs.Cost.{Cost, nothing, enter, ◌⊕◌, holding}
-use Rattle.meaning.specs.Rules.{Derives, symbol, empty, byte, range, any, text, seq_first, seq_both, choice_first, choice_second, star_stop, star_more, not, call, def_fail, def_pass, match, is_none_lem, is_some, isa_none, isa_some, exists, block, local, if, on}
+use Rattle.meaning.specs.Rules.{Derives, symbol, empty, byte, range, any, text, seq_first, seq_both, choice_first, choice_second, star_stop, star_more, not, call, def_fail, def_pass, match, is_none, is_some, isa_none, isa_some, exists, block, local, if, on}
 
 pub true≢false : ◌≡◌ {A = Bool} true false → ⊥
 true≢false e = let z : ◌≡◌ {A = ℕ} 0 1 = cc in omega arith
@@ -88,10 +88,10 @@ module _ (g : Grammar) (x : List ℕ) where
       Some v (Def t) p σ} (pass q (σ ++ (symbol t p q ∷ [])), enter (c ⊕ holding σ), def_pass D)
       (pass q' (σ ++ (symbol t p q' ∷ [])), enter (c' ⊕ holding σ), def_pass E)) refl
   unique match match = refl
-  unique (is_none_lem {v =
-      v} {t = t} {p = p} {σ = σ} h) (is_none_lem h') = ap {B = Some v (Is t) p σ} (λ k. (fail, enter nothing, is_none_lem k)) (Bool-set _ _ h h')
-  unique (is_none_lem h) (is_some h' E) = absurd (true≢false (sym h' ∙ h))
-  unique (is_some h D) (is_none_lem h') = absurd (true≢false (sym h ∙ h'))
+  unique (is_none {v =
+      v} {t = t} {p = p} {σ = σ} h) (is_none h') = ap {B = Some v (Is t) p σ} (λ k. (fail, enter nothing, is_none k)) (Bool-set _ _ h h')
+  unique (is_none h) (is_some h' E) = absurd (true≢false (sym h' ∙ h))
+  unique (is_some h D) (is_none h') = absurd (true≢false (sym h ∙ h'))
   unique (is_some {v = v} {t = t} {p = p} {σ = σ} h D) (is_some {o = o'} {c = c'} h' E) =
       ap {B = Some v (Is t) p σ} (λ s. (compared x p σ (take 1 (visible v t σ)) s.0, enter s.1, is_some h s.2)) (unique D E)
       ∙ ap {B = Some v (Is t) p σ} (λ k. (compared x p σ (take 1 (visible v t σ)) o', enter c', is_some k E)) (Bool-set _ _ h h')

@@ -1,8 +1,6 @@
 -- Texts and what they are taken for, computed over the definitions.
-use Rattle.std.specs.Prelude.{ℕ, ◌≡◌, refl, true, false, List, [], ◌∷◌, ◌++◌, map, replicate, length}
-use Rattle.grammar.specs.Expr.{Expr, Empty, Byte, Range, Any, Text, Sequence, Choice, Star, Not, Call, Def, Match, Is, Isa, Exists, Block, Local, If, On}
-use Rattle.grammar.specs.Grammar.{Grammar}
-use Rattle.format.specs.Written.{encode}
+use Rattle.std.specs.Prelude.{ℕ, ◌≡◌, refl, List, [], ◌∷◌, ◌++◌, map, replicate}
+use Rattle.grammar.specs.Expr.{Empty, Byte, Range, Text, Sequence, Choice, Star, Call, Def, Is, Block}
 use Rattle.format.specs.Cases.{harbour_grammar}
 use Rattle.notation.specs.Bytes.{bytes}
 use Rattle.notation.specs.Stream.{post, symbols, ◌▸▸◌, close, whole, in_bracket, in_angle, stream}
@@ -11,7 +9,6 @@ use Rattle.notation.specs.Reader.{grow, trees, came, reads, unread, parsed}
 use Rattle.notation.specs.Symbols.{same_symbols}
 use Rattle.notation.specs.Naming.{member, all, distinct, agree}
 use Rattle.notation.specs.Compile.{order, insert, sorted, place, entry, count, choices, emit, emit_all, roots, patterns_in, patterns_all, first, compile}
-use Rattle.notation.specs.Uses.{per_token}
 use Rattle.notation.specs.Places.{behind_truth, name_in, token_place, first_where, first_name, first_over, image_up_to, only, numbered}
 use Rattle.notation.specs.OnePattern.{failing}
 use Rattle.notation.specs.Judged.{Answer, good, refused, judged}

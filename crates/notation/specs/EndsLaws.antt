@@ -1,10 +1,10 @@
 -- Each lexeme has its place in the text: the bytes from it on are an end of the text.
-use Rattle.std.specs.Prelude.{ℕ, zero, suc, ◌-◌, ◌≤◌, ◌≡◌, refl, Bool, List, [], ◌∷◌, ◌++◌, length, drop}
+use Rattle.std.specs.Prelude.{ℕ, zero, suc, ◌-◌, ◌≤◌, ◌≡◌, Bool, List, [], ◌∷◌, ◌++◌, length, drop}
 use Rattle.std.proofs.Common.{arith}
 use Rattle.notation.specs.Tree.{Name, Part}
 use Rattle.notation.specs.Token.{Token, Lexeme}
 use Rattle.notation.specs.Lexical
-use Rattle.notation.specs.Lexical.{Line, over, ends, goes, Block, shuts, starred, goes_on, Gap, nothing, white, line, comment, Named, Char, escaped, hex, Chars, done, char, Parts, parts_end_lem, single, range, Then, behind, Sign, Truth, negated, plain, plain_end, Spelled, a_head, a_call, a_dot, a_text, a_class, a_query, an_if, an_opener, an_on, a_greater, a_left, a_right, a_slash, an_and, a_not, an_option, a_star, a_plus}
+use Rattle.notation.specs.Lexical.{Line, over, ends, goes, Block, shuts, starred, goes_on, Gap, nothing, white, line, comment, Named, Char, escaped, hex, Chars, done, char, Parts, parts_end, single, range, Then, behind, Sign, Truth, negated, plain, plain_end, Spelled, a_head, a_call, a_dot, a_text, a_class, a_query, an_if, an_opener, an_on, a_greater, a_left, a_right, a_slash, an_and, a_not, an_option, a_star, a_plus}
 use Rattle.notation.specs.Unread.{Unclosed, LexesTo, stuck}
 use Rattle.notation.specs.Unread as U
 use Rattle.notation.specs.Places.{place_of}
@@ -68,7 +68,7 @@ chars_ends done = inner whole
 chars_ends (char C D) = ends_on (char_ends C) (chars_ends D)
 
 parts_ends : {ps : List Part} {s r : List ℕ} → Parts ps s r → Ends s r
-parts_ends parts_end_lem = inner whole
+parts_ends parts_end = inner whole
 parts_ends (single C n D) = ends_on (char_ends C) (parts_ends D)
 parts_ends (range C E l D) = ends_on (char_ends C) (inner (ends_on (char_ends E) (parts_ends D)))
 

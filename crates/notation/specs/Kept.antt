@@ -10,9 +10,9 @@ use Rattle.notation.specs.Compile.{compile}
 
 -- The reading keeps the naming rules, and its grammar the limits.
 pub record Keeps (ps : List Production) : Type 0 where
-  pub all_defined_lem : all_defined ps ≡ true
-  pub once_named_lem : once_named ps ≡ true
-  pub one_pattern_lem : one_pattern ps ≡ true
+  pub names_defined : all_defined ps ≡ true
+  pub names_once : once_named ps ≡ true
+  pub patterns_one : one_pattern ps ≡ true
   pub fitting : fits ps (compile ps) ≡ true
 
 -- The text is short enough, and reads as these productions.

@@ -4,7 +4,7 @@ use Prim.Native.Char.{code}
 use Rattle.std.proofs.Math.Option.{Option, some, none}
 use Rattle.format.specs.Reading.{pick}
 use Rattle.notation.specs.Bytes.{bytes, blank, letter, name_byte, hex_digit, escape, one_of}
-use Rattle.notation.specs.Tree.{Name, Part, Query, match, is, isa, exists, Leaf, any, quoted, class, call, query, if, Prefix, and, not, Suffix, option, star, plus, Opener, def, block, local, on}
+use Rattle.notation.specs.Tree.{Name, Part, Query, match, is, isa, exists, any, quoted, class, call, query, if, and, not, option, star, plus, Opener, def, block, local, on}
 use Rattle.notation.specs.Token.{Token, head, leaf, opens, closes, left, right, slash, before, after, bad, Lexeme, bare}
 
 infixr 20 ◌then◌

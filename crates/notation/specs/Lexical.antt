@@ -19,9 +19,9 @@
 -- and a range in a class must not go down.
 use Rattle.std.specs.Prelude.{ℕ, ◌+◌, ◌*◌, ◌≤◌, ◌≡◌, Bool, true, false, List, [], ◌∷◌, ◌++◌}
 use Prim.Native.Char.{code}
-use Rattle.std.proofs.Math.Option.{Option, some, none}
+use Rattle.std.proofs.Math.Option.{some}
 use Rattle.notation.specs.Bytes.{bytes, one_of, blank, letter, name_byte, hex_digit, escape}
-use Rattle.notation.specs.Tree.{Name, Part, Query, match, is, isa, exists, Leaf, any, quoted, class, call, query, if, Prefix, and, not, Suffix, option, star, plus, Opener, def, block, local, on}
+use Rattle.notation.specs.Tree.{Name, Part, Query, match, is, isa, exists, any, quoted, class, call, query, if, and, not, option, star, plus, Opener, def, block, local, on}
 use Rattle.notation.specs.Token.{Token, head, leaf, opens, closes, left, right, slash, before, after, Lexeme}
 
 -- ## Gaps
@@ -82,7 +82,7 @@ pub data NoRange : List ℕ → Type 0 where
   last_dash : {s : List ℕ} → NoRange (code "-" ∷ code "]" ∷ s)
 
 pub data Parts : List Part → (s r : List ℕ) → Type 0 where
-  parts_end_lem : {r : List ℕ} → Parts [] (code "]" ∷ r) r
+  parts_end : {r : List ℕ} → Parts [] (code "]" ∷ r) r
   single : {b : ℕ} {ps : List Part} {s t r : List ℕ} → Char (code "]") b s t → NoRange t → Parts ps t r
       → Parts (record { lo = b; hi = b } ∷ ps) s r
   range : {lo hi : ℕ} {ps : List Part} {s t u r : List ℕ} → Char (code "]") lo s (code "-" ∷ t) → Char (code "]") hi t u → lo ≤ hi → Parts ps u r

@@ -1,13 +1,10 @@
 -- Gaps and names: the lexical rules and the functions of `Lexer` are one.
 use Rattle.std.specs.Prelude.{ℕ, ◌≡◌, refl, Bool, List, [], ◌∷◌, ◌++◌, eqb}
-use Prim.Native.Char.{code}
-use Rattle.std.proofs.Common.{ap, ◌∙◌, arith}
+use Rattle.std.proofs.Common.{ap, ◌∙◌}
 use Rattle.std.proofs.Math.Path.{sym, subst}
 use Rattle.std.proofs.Math.Bool.{true, false}
-use borrow.Author.Tests.{eq-eqb, ne_eqb, eqb-true, eqb-false}
-use Rattle.format.specs.Reading.{pick}
+use borrow.Author.Tests.{ne_eqb, eqb-true, eqb-false}
 use Rattle.notation.specs.Bytes.{blank, letter, name_byte}
-use Rattle.notation.specs.Tree.{Name}
 use Rattle.notation.specs.Lexical.{Line, over, ends, goes, Block, shuts, starred, goes_on, Solid, at_end, byte, last_slash, lone_slash, Gap, nothing, white, line, comment, NameBytes, none_left, one_more, NameEnds, text_ends, other_byte, Named, name}
 use Rattle.notation.specs.Unread.{Unclosed}
 use Rattle.notation.specs.Unread as U

@@ -1,17 +1,16 @@
 -- Tokens: the lexical rules and the functions of `Lexer` are one.
-use Rattle.std.specs.Prelude.{ℕ, zero, suc, ◌+◌, ◌≤◌, ◌<◌, ◌≡◌, refl, Bool, true, false, List, [], ◌∷◌, ◌++◌, eqb, length}
-use Prim.Native.Char.{code}
-use Rattle.std.proofs.Common.{ap, sym, ◌∙◌, subst, arith, length-append, eq-eqb, ne_eqb, eqb-true}
+use Rattle.std.specs.Prelude.{ℕ, ◌≡◌, refl, Bool, true, false, List, [], ◌∷◌, eqb}
+use Rattle.std.proofs.Common.{sym, ◌∙◌, subst, eq-eqb, ne_eqb, eqb-true}
 use Rattle.std.proofs.lemmas.Bool.{eqb-false}
 use Rattle.format.specs.Reading.{pick}
-use Rattle.notation.specs.Bytes.{bytes, one_of, blank, letter, name_byte}
-use Rattle.notation.specs.Tree.{Name, Part, Query, match, is, isa, exists, Leaf, any, quoted, class, call, query, if, Prefix, and, not, Suffix, option, star, plus, Opener, def, block, local, on}
-use Rattle.notation.specs.Token.{Token, head, leaf, opens, closes, left, right, slash, before, after, bad}
+use Rattle.notation.specs.Bytes.{bytes, one_of, letter}
+use Rattle.notation.specs.Tree.{Name, Part, Query, match, is, isa, exists, quoted, class, call, Opener, def, block, local}
+use Rattle.notation.specs.Token.{Token, leaf}
 use Rattle.notation.specs.Lexical
 use Rattle.notation.specs.Lexical.{Gap, Named, Then, behind, Sign, Truth, negated, plain, plain_end, Opens, a_def, a_block, a_local, Asks, a_match, an_is, an_isa, an_exists, Chars, Parts, NoCaret, no_caret, Spelled, a_head, a_call, a_dot, a_text, a_class, a_query, an_if, an_opener, an_on, a_greater, a_left, a_right, a_slash, an_and, a_not, an_option, a_star, a_plus}
 use Rattle.notation.specs.LexicalGap.{gap_skips, Gives, gives, gives_none, gap_sound, named_front, named_sound}
-use Rattle.notation.specs.LexicalText.{Yields, yields, yields_none, yield, quote_sound, quote_complete, parts_sound, parts_complete, no_way}
-use Rattle.notation.specs.Lexer.{Piece, piece, no, ◌then◌, Skipped, past, unclosed, gap, name_front, name_behind, name_here, name, sign_here, sign, truth_here, truth, fresh, quote, parts, begin, Word, opener, asks, ifs, ons, unknown, same, word, operator, named_here, classed, class_here, token}
+use Rattle.notation.specs.LexicalText.{Yields, yields, yields_none, quote_sound, quote_complete, parts_sound, parts_complete, no_way}
+use Rattle.notation.specs.Lexer.{Piece, piece, no, ◌then◌, Skipped, past, unclosed, gap, name_here, name, sign_here, sign, truth_here, truth, fresh, quote, Word, opener, asks, ifs, ons, unknown, same, word, operator, named_here, classed, class_here, token}
 
 -- ## Combining
 

@@ -1,5 +1,5 @@
 -- 01's limits, as one test of a reading and its grammar.
-use Rattle.std.specs.Prelude.{ℕ, Bool, true, false, List, [], ◌∷◌, leb, length}
+use Rattle.std.specs.Prelude.{Bool, false, List, [], ◌∷◌, leb, length}
 use Rattle.format.specs.Reading.{pick}
 use Rattle.format.specs.Written.{encode}
 use Rattle.grammar.specs.Grammar.{Grammar, size}

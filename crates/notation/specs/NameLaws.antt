@@ -1,8 +1,7 @@
 -- The place of a token's name is where that name stands: in the token, and so in the text.
-use Rattle.std.specs.Prelude.{ℕ, ◌≡◌, refl, Bool, true, false, List, [], ◌∷◌, ◌++◌, eqb, drop}
-use Prim.Native.Char.{code}
-use Rattle.std.proofs.Common.{ap, sym, ◌∙◌, subst, ne_eqb}
-use Rattle.notation.specs.Bytes.{bytes, letter}
+use Rattle.std.specs.Prelude.{ℕ, ◌≡◌, refl, Bool, true, false, List, [], ◌∷◌, ◌++◌, drop}
+use Rattle.std.proofs.Common.{ap, sym, ◌∙◌, ne_eqb}
+use Rattle.notation.specs.Bytes.{letter}
 use Rattle.notation.specs.Tree.{Name}
 use Rattle.notation.specs.Token.{Token, Lexeme}
 use Rattle.notation.specs.Lexical
@@ -12,7 +11,7 @@ use Rattle.notation.specs.Unread as U
 use Rattle.notation.specs.LexicalGap.{gap_skips}
 use Rattle.notation.specs.LexicalText.{no_way}
 use Rattle.notation.specs.LexicalToken.{name_complete, truth_complete}
-use Rattle.notation.specs.Lexer.{piece, ◌then◌, truth}
+use Rattle.notation.specs.Lexer.{◌then◌}
 use Rattle.notation.specs.Uses.{head_of, call_of, def_of, ask_of, switch_of}
 use Rattle.notation.specs.Places.{behind_truth, name_in, name_place}
 use Rattle.notation.specs.EndsLaws.{Ends, whole, inner, ends_on, ends_placed, gap_ends, token_ends, then_named, then_truth}

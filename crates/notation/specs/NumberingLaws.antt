@@ -1,5 +1,5 @@
 -- THE NUMBERS OF NAMES, AND HOW MANY THERE ARE. 02, L2: "Tables and conditions are numbered in byte order of their names." So no two tables are taken for one.
-use Rattle.std.specs.Prelude.{ℕ, suc, ◌<◌, ◌≡◌, Bool, true, false, List, [], ◌∷◌, length}
+use Rattle.std.specs.Prelude.{suc, ◌<◌, ◌≡◌, Bool, true, false, List, [], ◌∷◌, length}
 use Rattle.std.proofs.Math.Path.{refl}
 use Rattle.std.proofs.Common.{sym, ap, ◌∙◌, arith}
 use Rattle.std.proofs.Math.ListN.{length-map}

@@ -279,4 +279,4 @@ pub taken_once :
 taken_once {g = g} t h ph H T depth =
     let ps = t.productions in
     let m = taken_means t in
-    same_start g h (production_number ps) ph (table_number ps) (condition_number ps) ps m.0 H t.keeps.all_defined_lem depth m.1 T
+    same_start g h (production_number ps) ph (table_number ps) (condition_number ps) ps m.0 H t.keeps.names_defined depth m.1 T

@@ -1,6 +1,6 @@
 -- Byte order is a strict total order on names: two are equal in it exactly if they are the same, it turns round with its names, and it is transitive.
 -- `insert` and `sorted` keep it, and what is sorted goes by the members alone.
-use Rattle.std.specs.Prelude.{ℕ, ◌≤◌, ◌<◌, ◌≡◌, refl, Bool, true, false, ◌↔◌, List, [], ◌∷◌, ◌++◌, eqb, ltb}
+use Rattle.std.specs.Prelude.{ℕ, ◌<◌, ◌≡◌, refl, Bool, true, false, ◌↔◌, List, [], ◌∷◌, ◌++◌, eqb, ltb}
 use Rattle.std.proofs.Common.{ap, sym, ◌∙◌, arith}
 use borrow.Author.Tests.{eq-eqb, ne_eqb, eqb-true, eqb-false, lt-ltb, le-ltb, ltb-true, ltb-false}
 use Rattle.notation.specs.Tree.{Name}

@@ -7,7 +7,7 @@ use Rattle.format.specs.Written.{written, numbers, encode_node, heading}
 use Rattle.grammar.specs.Grammar.{Grammar}
 use Rattle.notation.specs.Tree.{Name, Production}
 use Rattle.notation.specs.Token.{Token, Lexeme}
-use Rattle.notation.specs.Lexer.{Piece, piece, no, ◌then◌, Skipped, past, unclosed, gap, name, truth}
+use Rattle.notation.specs.Lexer.{Piece, piece, no, ◌then◌, past, unclosed, gap, name, truth}
 use Rattle.notation.specs.Naming.{all, member, Definition}
 use Rattle.notation.specs.Uses.{head_of, call_of, def_of, ask_of, quoted_in, is_short}
 use Rattle.notation.specs.OnePattern.{fault}

@@ -1,8 +1,7 @@
 -- What is read from bytes has bytes in its quoted text and its classes, and each part of a class goes up.
-use Rattle.std.specs.Prelude.{ℕ, zero, suc, ◌+◌, ◌-◌, ◌*◌, ◌≤◌, ◌<◌, ◌≡◌, refl, Bool, true, false, List, [], ◌∷◌, ◌++◌, eqb, leb, get_or}
-use Prim.Native.Char.{code}
-use Rattle.std.proofs.Common.{ap, sym, ◌∙◌, subst, arith, leb-true}
-use Rattle.std.proofs.Math.Option.{Option, some, none}
+use Rattle.std.specs.Prelude.{ℕ, zero, suc, ◌+◌, ◌-◌, ◌≤◌, ◌≡◌, refl, Bool, true, false, List, [], ◌∷◌, ◌++◌, eqb, leb}
+use Rattle.std.proofs.Common.{arith, leb-true}
+use Rattle.std.proofs.Math.Option.{some, none}
 use Rattle.format.specs.Reading.{pick}
 use Rattle.grammar.specs.Sound.{Bytes}
 use Rattle.notation.specs.Bytes.{one_of, between, hex_digit, escape}
@@ -10,7 +9,7 @@ use Rattle.notation.specs.Tree.{Name, Part, Leaf, any, quoted, class, call, quer
 use Rattle.notation.specs.Token.{Token, head, leaf as leaf', opens, closes, left, right, slash, before, after, bad, Lexeme, bare}
 use Rattle.notation.specs.Notation.{Level, Reads, alternatives, one_alternative, items, one_item, prefixed, no_prefix, suffixed, no_suffix, itself, brackets, operator, Productions, last, more}
 use Rattle.notation.specs.Lexical
-use Rattle.notation.specs.Lexical.{Line, over, ends, goes, Block, shuts, starred, goes_on, Gap, nothing, white, line, comment, Named, Char, escaped, hex, Chars, done, char, Parts, parts_end_lem, single, range, Then, behind, Sign, Truth, negated, plain, plain_end, Spelled, a_head, a_call, a_dot, a_text, a_class, a_query, an_if, an_opener, an_on, a_greater, a_left, a_right, a_slash, an_and, a_not, an_option, a_star, a_plus, Lexes, finish}
+use Rattle.notation.specs.Lexical.{Line, over, ends, goes, Block, shuts, starred, goes_on, Gap, nothing, white, line, comment, Named, Char, escaped, hex, Chars, done, char, Parts, parts_end, single, range, Then, behind, Sign, Truth, negated, plain, plain_end, Spelled, a_head, a_call, a_dot, a_text, a_class, a_query, an_if, an_opener, an_on, a_greater, a_left, a_right, a_slash, an_and, a_not, an_option, a_star, a_plus, Lexes, finish}
 use Rattle.notation.specs.LexicalText.{no_way}
 use Rattle.notation.specs.FitLaws.{PartFits, AllParts}
 use Rattle.notation.specs.Text.{ReadsAs}
@@ -78,7 +77,7 @@ chars_bytes done f = (tt, f.1)
 chars_bytes (char C D) f = let h = char_byte C f in let k = chars_bytes D h.1 in ((h.0, k.0), k.1)
 
 parts_bytes : (T C N : ℕ) {ps : List Part} {s r : List ℕ} → Parts ps s r → AllBytes s → AllParts T C N ps × AllBytes r
-parts_bytes T C N parts_end_lem f = (tt, f.1)
+parts_bytes T C N parts_end f = (tt, f.1)
 parts_bytes T C N (single D n E) f =
     let h = char_byte D f in let k = parts_bytes T C N E h.1 in (((omega arith, h.0), k.0), k.1)
 parts_bytes T C N (range D E l F) f =

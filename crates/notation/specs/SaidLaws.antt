@@ -68,14 +68,14 @@ module _ {text : List ℕ} {room : ℕ} where
   due_said (due_23 (ps, r, a, b, c)) = reading_said r (judged_differs text room r.reading.lexemes r.reading.derives a b c)
   due_said (due_24 (ps, r, a, b, c, d)) = reading_said r (judged_past text room r.reading.lexemes r.reading.derives a b c d)
   due_said (due_25 (ps, r, k, h)) =
-      reading_said r (0, judged_no_room text room r.reading.lexemes r.reading.derives k.all_defined_lem k.once_named_lem k.one_pattern_lem k.fitting h)
+      reading_said r (0, judged_no_room text room r.reading.lexemes r.reading.derives k.names_defined k.names_once k.patterns_one k.fitting h)
 
   taken_said : {g : Grammar} → Taken text room g → Says text room (good g)
   taken_said t =
       let r = t.is_read.reading in
       let k = t.keeps in
       subst (Says text room)
-      (judged_good text room r.lexemes r.derives k.all_defined_lem k.once_named_lem k.one_pattern_lem k.fitting (rw t.is t.image_fits)
+      (judged_good text room r.lexemes r.derives k.names_defined k.names_once k.patterns_one k.fitting (rw t.is t.image_fits)
       ∙ ap good t.is)
       (read t.is_read.short r)
 
@@ -95,11 +95,11 @@ outcome text room = go (ltb 65535 (length text)) refl
     ruled ps r true true false d e p q s t u = is_due (due_23 (ps, r, p, q, s))
     ruled ps r true true true false e p q s t u = is_due (due_24 (ps, r, p, q, s, t))
     ruled ps r true true true true false p q s t u =
-        is_due (due_25 (ps, r, record { all_defined_lem = p; once_named_lem = q; one_pattern_lem = s; fitting = t }, leb-false (length (encode (compile ps))) room u))
+        is_due (due_25 (ps, r, record { names_defined = p; names_once = q; patterns_one = s; fitting = t }, leb-false (length (encode (compile ps))) room u))
     ruled ps r true true true true true p q s t u = is_taken (record {
       productions = ps;
       is_read = r;
-      keeps = record { all_defined_lem = p; once_named_lem = q; one_pattern_lem = s; fitting = t };
+      keeps = record { names_defined = p; names_once = q; patterns_one = s; fitting = t };
       is = refl;
       image_fits = leb-true (length (encode (compile ps))) room u;
     })
@@ -225,7 +225,7 @@ module _ {text : List ℕ} {room : ℕ} {g : Grammar} where
   pub taken_means : (t : Taken text room g) → Meant g t.productions
   taken_means t =
       subst (λ g. Meant g t.productions) t.is
-      (compile_means t.productions t.keeps.once_named_lem t.keeps.one_pattern_lem, starts_of t.is_read.reading.derives)
+      (compile_means t.productions t.keeps.names_once t.keeps.patterns_one, starts_of t.is_read.reading.derives)
 
   -- ITS IMAGE STANDS FOR IT, AND IS READ AS IT.
   pub taken_stands : Bytes text → Taken text room g → Stands (encode g) g

@@ -4,7 +4,7 @@ use Rattle.std.proofs.Common.{arith, length-append}
 use Rattle.notation.specs.Tree.{Name, Part}
 use Rattle.notation.specs.Token.{Token}
 use Rattle.notation.specs.Lexical
-use Rattle.notation.specs.Lexical.{Line, over, ends, goes, Block, shuts, starred, goes_on, Gap, nothing, white, line, comment, Named, Char, escaped, hex, Chars, done, char, Parts, parts_end_lem, single, range, Then, behind, Sign, Truth, negated, plain, plain_end, Spelled, a_head, a_call, a_dot, a_text, a_class, a_query, an_if, an_opener, an_on, a_greater, a_left, a_right, a_slash, an_and, a_not, an_option, a_star, a_plus}
+use Rattle.notation.specs.Lexical.{Line, over, ends, goes, Block, shuts, starred, goes_on, Gap, nothing, white, line, comment, Named, Char, escaped, hex, Chars, done, char, Parts, parts_end, single, range, Then, behind, Sign, Truth, negated, plain, plain_end, Spelled, a_head, a_call, a_dot, a_text, a_class, a_query, an_if, an_opener, an_on, a_greater, a_left, a_right, a_slash, an_and, a_not, an_option, a_star, a_plus}
 
 line_shorter : {s r : List ℕ} → Line s r → length r ≤ length s
 line_shorter over = omega arith
@@ -36,7 +36,7 @@ chars_shorter (char C D) = let h = char_shorter C in let k = chars_shorter D in 
 
 -- A class has a byte for each of its parts, and its `]`.
 pub parts_shorter : {ps : List Part} {s r : List ℕ} → Parts ps s r → length ps + length r < length s
-parts_shorter parts_end_lem = omega arith
+parts_shorter parts_end = omega arith
 parts_shorter (single C n D) = let h = char_shorter C in let k = parts_shorter D in omega arith
 parts_shorter (range C E l D) = let h = char_shorter C in let i = char_shorter E in let k = parts_shorter D in omega arith
 

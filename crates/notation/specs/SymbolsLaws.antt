@@ -1,16 +1,16 @@
 -- A symbol is told by its number and by what it holds, and a tree by its symbols: so two trees are the same tree or not.
-use Rattle.std.specs.Prelude.{ℕ, ◌≡◌, refl, Bool, true, false, List, [], ◌∷◌, ◌++◌, eqb}
-use Rattle.std.proofs.Common.{ap, sym, ◌∙◌, arith, eq-eqb, eqb-true}
+use Rattle.std.specs.Prelude.{ℕ, ◌≡◌, refl, Bool, true, false, List, [], ◌∷◌, eqb}
+use Rattle.std.proofs.Common.{ap, sym, ◌∙◌, eq-eqb, eqb-true}
 use Rattle.std.proofs.Math.Logic.{ite}
 use Rattle.format.specs.Reading.{pick}
-use Rattle.notation.specs.Tree.{Name, Part, Query, match, is, isa, exists, Leaf, any, quoted, class, call, query, if, Prefix, and, not, Suffix, option, star, plus, Binary, sequence, choice, Opener, def, block, local, on, Tree, Production}
+use Rattle.notation.specs.Tree.{Part, match, is, isa, exists, Leaf, any, quoted, class, call, query, if, and, not, option, star, plus, sequence, choice, def, block, local, on, Tree, Production}
 use Rattle.notation.specs.Stream.{Symbol, named, stands, enters, leaves, front, back, joins, post, ended, ◌▸▸◌}
 use Rattle.notation.specs.Reader.{grow}
 use Rattle.notation.specs.ReaderLaws.{grow_post}
 use Rattle.notation.specs.Lexer.{same}
 use Rattle.notation.specs.LexicalText.{no_way}
 use Rattle.notation.specs.LexicalToken.{same_true}
-use Rattle.notation.specs.Symbols.{ends, bit, kind, contents, same_symbol, same_symbols}
+use Rattle.notation.specs.Symbols.{ends, kind, contents, same_symbol, same_symbols}
 
 -- ## A symbol is told by its kind and its contents
 
@@ -28,9 +28,9 @@ class_of : List Part → Leaf
 class_of [] = any
 class_of (p ∷ ps) = class p ps
 
-with_truth_lem : (List ℕ → Bool → Symbol) → List ℕ → Symbol
-with_truth_lem f [] = leaves
-with_truth_lem f (b ∷ s) = f s (eqb b 1)
+with_truth : (List ℕ → Bool → Symbol) → List ℕ → Symbol
+with_truth f [] = leaves
+with_truth f (b ∷ s) = f s (eqb b 1)
 
 symbol_of : ℕ → List ℕ → Symbol
 symbol_of k x =
@@ -43,18 +43,18 @@ symbol_of k x =
     (pick (eqb k 6) (stands (query is x))
     (pick (eqb k 7) (stands (query isa x))
     (pick (eqb k 8) (stands (query exists x))
-    (pick (eqb k 9) (with_truth_lem (λ c w. stands (if c w)) x)
+    (pick (eqb k 9) (with_truth (λ c w. stands (if c w)) x)
     (pick (eqb k 10) (enters (def x))
     (pick (eqb k 11) (enters (block x))
     (pick (eqb k 12) (enters (local x))
-    (pick (eqb k 13) (with_truth_lem (λ c w. enters (on c w)) x)
+    (pick (eqb k 13) (with_truth (λ c w. enters (on c w)) x)
     (pick (eqb k 14) leaves
     (pick (eqb k 15) (front and)
     (pick (eqb k 16) (front not)
     (pick (eqb k 17) (back option) (pick (eqb k 18) (back star) (pick (eqb k 19) (back plus) (pick (eqb k 20) (joins sequence) (joins choice)))))))))))))))))))))
 
 told : (s : Symbol) → symbol_of (kind s) (contents s) ≡ s
-unfolding symbol_of with_truth_lem class_of pairs
+unfolding symbol_of with_truth class_of pairs
 told (named n) = refl
 told (stands any) = refl
 told (stands (quoted s)) = refl

@@ -10,7 +10,7 @@ use Rattle.notation.specs.Unread.{LexesTo, stuck, unclosed}
 use Rattle.notation.specs.Unread as U
 use Rattle.notation.specs.UnreadLaws.{lexes_to, lexed_once, lexes_whole}
 use Rattle.notation.specs.Lexer.{lexemes, tokens}
-use Rattle.notation.specs.Reader.{Parsed, reads, parsed}
+use Rattle.notation.specs.Reader.{reads, parsed}
 use Rattle.notation.specs.ReaderLaws.{parsed_derived, exact as parsed_exact}
 use Rattle.notation.specs.Text.{ReadsAs}
 

@@ -58,14 +58,14 @@ module _ {text latest : List ℕ} {count over : ℕ} {t : Token} (h : length tex
       let k = D.def.0 in
       D.lexed.named (omega arith) (omega arith) ∙ ap (λ l. name_in l.here) (sym this)
 
-  is_def_lem : meant text t ≡ opens (def (name_at text t.name))
+  is_def : meant text t ≡ opens (def (name_at text t.name))
   unfolding meant opener_at
-  is_def_lem = let d = D.def in rw (d.0, d.1)
+  is_def = let d = D.def in rw (d.0, d.1)
 
   body_here : (body_of (get_or (defs_of text) i no_lexeme)).ahead ≡ tokens (drop t.next text)
   unfolding ahead
   body_here =
-      ap (λ l. (body_of l).ahead) this ∙ ap (λ b. b.ahead) (body_front (drop D.from text) {l = placed text t} {ls = lexemes (drop t.next text)} (D.lexed.goes ∙ rw D.def.0) is_def_lem)
+      ap (λ l. (body_of l).ahead) this ∙ ap (λ b. b.ahead) (body_front (drop D.from text) {l = placed text t} {ls = lexemes (drop t.next text)} (D.lexed.goes ∙ rw D.def.0) is_def)
 
   -- It is passed over.
   pub over_one : 0 < over → Passes text latest count (over - 1) (defs_of (drop t.next text))

@@ -90,7 +90,7 @@ opened_push h s v l = rw (add-one h) (rw (get_or-set_same s h v 0 l, opened_same
 
 -- Some tokens by the kind of the front one.
 pub data Is : ℕ → List Token → Type 0 where
-  is_none_lem : Is 0 []
+  is_none : Is 0 []
   is_head : {n : Name} {ts : List Token} → Is 1 (head n ∷ ts)
   is_closes : {ts : List Token} → Is 2 (closes ∷ ts)
   is_right : {ts : List Token} → Is 3 (right ∷ ts)
@@ -105,7 +105,7 @@ pub data Is : ℕ → List Token → Type 0 where
 
 is : (ts : List Token) → Is (kind ts) ts
 unfolding kind_of
-is [] = is_none_lem
+is [] = is_none
 is (head n ∷ ts) = is_head
 is (closes ∷ ts) = is_closes
 is (right ∷ ts) = is_right
@@ -128,7 +128,7 @@ start_head is_head σ = refl
 
 start_breaks : {k : ℕ} {ts : List Token} → Is k ts → (σ : List Pending) → (k ≡ 1 → ⊥) → stream ts start σ ≡ broken
 unfolding stream
-start_breaks is_none_lem σ n = refl
+start_breaks is_none σ n = refl
 start_breaks is_head σ n = absurd (n refl)
 start_breaks is_closes σ n = refl
 start_breaks is_right σ n = refl
@@ -164,7 +164,7 @@ want_pushes is_bad σ l m = absurd (omega arith)
 
 want_breaks : {k : ℕ} {ts : List Token} → Is k ts → (σ : List Pending) → (5 ≤ k → k ≤ 9 → ⊥) → stream ts want σ ≡ broken
 unfolding stream
-want_breaks is_none_lem σ n = refl
+want_breaks is_none σ n = refl
 want_breaks is_head σ n = refl
 want_breaks is_closes σ n = refl
 want_breaks is_right σ n = refl
@@ -201,7 +201,7 @@ closes_bounds k = go (ltb k 4) (eqb k 4) refl refl
 
 closes_next : {k : ℕ} {ts : List Token} → Is k ts → k ≤ 9 → closes_from k ≡ next ts + 1
 unfolding closes_from
-closes_next is_none_lem l = refl
+closes_next is_none l = refl
 closes_next is_head l = refl
 closes_next is_closes l = refl
 closes_next is_right l = refl
@@ -237,7 +237,7 @@ behind_slash is_slash σ l = alternative_leaves σ _ l
 behind_item :
     {k : ℕ} {ts : List Token} → Is k ts → (σ : List Pending) → 5 ≤ k → k ≤ 9 → top σ ≤ 2 → stream ts behind σ ≡ stream ts want (half sequence ∷ σ)
 unfolding stream
-behind_item is_none_lem σ l m h = absurd (omega arith)
+behind_item is_none σ l m h = absurd (omega arith)
 behind_item is_head σ l m h = absurd (omega arith)
 behind_item is_closes σ l m h = absurd (omega arith)
 behind_item is_right σ l m h = absurd (omega arith)
@@ -252,7 +252,7 @@ behind_item is_bad σ l m h = absurd (omega arith)
 
 behind_bad : {k : ℕ} {ts : List Token} → Is k ts → (σ : List Pending) → 11 ≤ k → stream ts behind σ ≡ broken
 unfolding stream
-behind_bad is_none_lem σ l = absurd (omega arith)
+behind_bad is_none σ l = absurd (omega arith)
 behind_bad is_head σ l = absurd (omega arith)
 behind_bad is_closes σ l = absurd (omega arith)
 behind_bad is_right σ l = absurd (omega arith)
@@ -273,7 +273,7 @@ data Ends : ℕ → List Token → Type 0 where
   at_right : {ts : List Token} → Ends 3 (right ∷ ts)
 
 ends : {k : ℕ} {ts : List Token} → Is k ts → k ≤ 3 → Ends k ts
-ends is_none_lem l = at_none
+ends is_none l = at_none
 ends is_head l = at_head
 ends is_closes l = at_closes
 ends is_right l = at_right

@@ -26,7 +26,7 @@ use Rattle.walker.specs.Acts.{kind_of, kind, mode_of, entry_of, opened, latest, 
 use Rattle.walker.specs.Walks.{rest, Walks, to_go, plain_of, symbol_at, Begins}
 use Rattle.walker.specs.SymbolLaws.{by_test, symbol_leaf, symbol_opener, symbol_plain}
 use Rattle.walker.specs.Steps.{shown_as, Closes, Takes}
-use Rattle.walker.proofs.ActLaws.{Is, is_none_lem, is_head, is_closes, is_right, is_slash, is_leaf, is_opens, is_left, is_and, is_not, is_after, is_bad, of_kind, latest_some, Entry, a_bracket, an_angle, a_choice, a_row, a_prefix, entry}
+use Rattle.walker.proofs.ActLaws.{Is, is_none, is_head, is_closes, is_right, is_slash, is_leaf, is_opens, is_left, is_and, is_not, is_after, is_bad, of_kind, latest_some, Entry, a_bracket, an_angle, a_choice, a_row, a_prefix, entry}
 
 -- ## Acts by their tag
 
@@ -104,7 +104,7 @@ pub data Shows (k n : ℕ) : Type 0 where
 
 shows : {k : ℕ} {ts : List N.Token} → Is k ts → (n : ℕ) → Numbers k n → Shows k n
 unfolding shown_as
-shows is_none_lem n ns = nothing refl
+shows is_none n ns = nothing refl
 shows is_head n ns = one (omega arith) (omega arith)
 shows is_closes n ns = one (omega arith) (omega arith)
 shows is_right n ns = nothing refl

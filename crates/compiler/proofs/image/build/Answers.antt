@@ -20,7 +20,7 @@ fill_roots-counted-requires c = let l = c.requires.1 in (
     productions = l.productions;
     reads = l.passes.reading;
     small = (held l.passes).few_nodes;
-    once = (held l.passes).once_named_lem;
+    once = (held l.passes).names_once;
     listed = l.heads_are;
     long = length-take-le (length c.args.heads.now) _ (listed_heads l);
   },

@@ -41,7 +41,7 @@ build-requires c = let p = c.requires.1.1 in (
     productions = c.requires.1.0;
     passes = p;
     heads_are = gathers_listed c.gather-named.ensures ∙ heads_gathered p.reading;
-    tables_are = gathers_listed c.gather-defined.ensures ∙ tables_gathered p.reading (held p).all_defined_lem;
+    tables_are = gathers_listed c.gather-defined.ensures ∙ tables_gathered p.reading (held p).names_defined;
     switches_are = gathers_listed c.gather-asked.ensures ∙ conditions_gathered p.reading;
   },
 )

@@ -18,7 +18,7 @@ use Rattle.tally.specs.Charged.{later_round}
 use Rattle.machine.specs.StarLaws.{Rounds, rounds_from, star_ends, star_spent, star_again}
 use Rattle.meaning.specs.Outcome.{in_range, same, some, part, text, begins, among}
 use Rattle.machine.specs.EntryLaws.{Entry, says_one, below, fits, lower, pattern_numbered, in_image, short_text, in_list, unseen, in_view, any_seen, agrees, says_sequence, says_choice, says_star, says_not, says_call, says_block, says_local, says_on, says_def, says_is_none, says_isa_none, says_is, says_isa, says_empty, says_byte, says_range, says_any, says_text, says_match_none, says_match, says_exists, says_if}
-use Rattle.machine.specs.EntryNeeds.{refuses_steps, refuses_depth, tally_fits, range_ends, place_fits, held_lent, text_ends, held_part, seen_held, seen_fits, same_symbol_lem, is_test, plain_bounds, scope_bounds, named_bounds, room_lent, scope_lent}
+use Rattle.machine.specs.EntryNeeds.{refuses_steps, refuses_depth, tally_fits, range_ends, place_fits, held_lent, text_ends, held_part, seen_held, seen_fits, same_symbol, is_test, plain_bounds, scope_bounds, named_bounds, room_lent, scope_lent}
 use Rattle.meaning.specs.State.{visible}
 use Rattle.kinds.specs.declared.state.State.{State}
 use Rattle.kinds.specs.Held.{env_of}
@@ -431,7 +431,7 @@ inside-returns-else-seen-eq0-2 t c = let k = (goal.at.inside-returns-else-seen-e
     let d = inner k a.state (get_or a.code.now (512 + c.in-Is.t) 0) c.eval-r-in-Is.ensures in
     let w = in_view c.in-Is.t a.state a.slots.now (held k) c.floor-in-Is.ensures c.latest-seen-in-Is.ensures (pos_of_ne-zero c.if-seen-eq0-2.false) in
     let j = c.latest-seen-in-Is.result - 1 in
-    let same_one = same_symbol_lem d.frame j (seen_held E c.in-Is.t c.floor-in-Is.result c.latest-seen-in-Is.ensures (pos_of_ne-zero c.if-seen-eq0-2.false)) in
+    let same_one = same_symbol d.frame j (seen_held E c.in-Is.t c.floor-in-Is.result c.latest-seen-in-Is.ensures (pos_of_ne-zero c.if-seen-eq0-2.false)) in
     finish k (done_as (done_named d a.input.now (at k) (take 1 (visible (env_of a.state) c.in-Is.t (symbols (held k) a.slots.now))) (λ end. same (part a.input.now (at k) end) (text a.input.now (symbol_at c.eval-r-in-Is.new.slots j)))
     (λ end. is_test a.input.now (at k) end (listed c.in-Is.t c.floor-in-Is.result a.slots.now j) same_one w) c.is_latest.ensures) (says_is E a.state K (ap some w)))
 

@@ -1,6 +1,5 @@
 -- `opened` meets its promise: by the number's size. Assumes nothing.
 use borrow.Author.Tests.{lt-ltb, le-ltb}
-use native.Mathlib.Omega.{arith}
 use Rattle.parts.specs.Packed.{at_of, held_of, steps_of, depth_of, opened_of}
 use Rattle.parts.proofs.outcome.opened.Goals as goal
 
