@@ -7,17 +7,17 @@ mod line;
 mod read;
 mod show;
 
-use files::Taken;
+use files::TakeError;
 use std::io;
 
 fn main(rt: HostRuntime) -> io::Result<()> {
     let err = rt.stderr();
     let mut cases = [0u8; 131072];
-    let taken = files::take(&rt, b"cases", &mut cases);
-    match taken {
-        Taken::Bytes(n) => line::each(&rt, &cases[..n])?,
-        Taken::Unopened(why) => files::fail(&err, b"cases", why)?,
-        Taken::Unread(why) => files::fail(&err, b"cases", why)?,
+    match files::take(&rt, b"cases", &mut cases) {
+        Ok(n) => line::each(&rt, &cases[..n])?,
+        Err(TakeError::Unopened(why) | TakeError::Unread(why)) => {
+            files::fail(&err, b"cases", why)?
+        }
     }
     large::all(&rt)
 }

@@ -1,59 +1,91 @@
 // Prints a case's name with what a public function of `yarnspire` gives for it. Each call is lent nine slot numbers, each 7.
 use std::io;
-use yarnspire::{Answer, Verdict};
+use yarnspire::{Answer, Limits, Recognition};
 
-fn word(out: &impl Print, w: &[u8]) -> io::Result<()> {
-    out.write_all(w)
+// An input that an image is to recognise within limits.
+#[derive(Clone, Copy)]
+pub struct Case<'a> {
+    pub name: &'a [u8],
+    pub image: &'a [u8],
+    pub input: &'a [u8],
+    pub limits: Limits,
 }
 
-fn number(out: &impl Print, before: &[u8], n: u32) -> io::Result<()> {
-    out.write_all(before)?;
-    print!(out; "{n}")
+impl Case<'_> {
+    // Recognise.
+    pub fn recognise(self, out: &impl Print) -> io::Result<()> {
+        let mut slots = [7u32; 9];
+        let answer = yarnspire::recognise(self.image, self.input, self.limits, &mut slots);
+        answered(out, self.name, answer, &slots)
+    }
+
+    // Recognise, with as many slots as the greatest limits ask for, each 7; the first nine are printed.
+    pub fn ample(self, out: &impl Print) -> io::Result<()> {
+        let mut slots = [7u32; 768];
+        let answer = yarnspire::recognise(self.image, self.input, self.limits, &mut slots);
+        answered(out, self.name, answer, &slots[..9])
+    }
+
+    // Accepted text: the part handed back, and the answer's six numbers in 01's order.
+    pub fn text(self, out: &impl Print) -> io::Result<()> {
+        let mut slots = [7u32; 9];
+        let Recognition { answer, text } = yarnspire::accepted_text(
+            self.image,
+            self.input,
+            self.limits,
+            &mut slots,
+        );
+        out.write_all(self.name)?;
+        out.write_all(b": text \"")?;
+        out.write_all(text)?;
+        out.write_all(b"\", ")?;
+        match answer {
+            Answer::Accepted {
+                consumed,
+                steps,
+                depth,
+                symbols,
+            } => print!(out; "0 {consumed} {steps} {depth} {symbols} 0")?,
+            Answer::Failed { steps, depth } => print!(out; "99 0 {steps} {depth} 0 0")?,
+            Answer::Refused {
+                refusal,
+                place,
+                steps,
+                depth,
+            } => print!(out; "{} 0 {steps} {depth} 0 {place}", refusal.number())?,
+        }
+        ended(out, &slots)
+    }
 }
 
-// The nine slot numbers, and the line's end.
-fn ended(out: &impl Print, slots: [u32; 9]) -> io::Result<()> {
-    number(out, b", slots ", slots[0])?;
-    number(out, b" ", slots[1])?;
-    number(out, b" ", slots[2])?;
-    number(out, b" ", slots[3])?;
-    number(out, b" ", slots[4])?;
-    number(out, b" ", slots[5])?;
-    number(out, b" ", slots[6])?;
-    number(out, b" ", slots[7])?;
-    number(out, b" ", slots[8])?;
-    word(out, b"\n")
+// The slot numbers, and the line's end.
+fn ended(out: &impl Print, slots: &[u32]) -> io::Result<()> {
+    print!(out; ", slots")?;
+    for n in slots {
+        print!(out; " {n}")?;
+    }
+    print!(out; "\n")
 }
 
 // An answer, and the slots after it.
-pub fn answered(out: &impl Print, name: &[u8], answer: Answer, slots: [u32; 9]) -> io::Result<()> {
-    word(out, name)?;
+pub fn answered(out: &impl Print, name: &[u8], answer: Answer, slots: &[u32]) -> io::Result<()> {
+    out.write_all(name)?;
     match answer {
         Answer::Accepted {
             consumed,
             steps,
             depth,
             symbols,
-        } => {
-            number(out, b": accept ", consumed)?;
-            number(out, b" steps ", steps)?;
-            number(out, b" depth ", depth)?;
-            number(out, b" symbols ", symbols)?;
-        }
-        Answer::Failed { steps, depth } => {
-            number(out, b": fail steps ", steps)?;
-            number(out, b" depth ", depth)?;
-        }
+        } => print!(out; ": accept {consumed} steps {steps} depth {depth} symbols {symbols}")?,
+        Answer::Failed { steps, depth } => print!(out; ": fail steps {steps} depth {depth}")?,
         Answer::Refused {
-            number: n,
+            refusal,
             place,
             steps,
             depth,
         } => {
-            number(out, b": refuse ", n)?;
-            number(out, b" place ", place)?;
-            number(out, b" steps ", steps)?;
-            number(out, b" depth ", depth)?;
+            let number = refusal.number();
+            print!(out; ": refuse {number} place {place} steps {steps} depth {depth}")?;
         }
     }
     ended(out, slots)
@@ -61,89 +93,12 @@ pub fn answered(out: &impl Print, name: &[u8], answer: Answer, slots: [u32; 9]) 
 
 // Check.
 pub fn check(out: &impl Print, name: &[u8], image: &[u8]) -> io::Result<()> {
-    let verdict = yarnspire::check(image);
-    word(out, name)?;
-    match verdict {
-        Verdict::Good => word(out, b": good")?,
-        Verdict::Refused { number: n, place } => {
-            number(out, b": refuse ", n)?;
-            number(out, b" place ", place)?;
+    out.write_all(name)?;
+    match yarnspire::check(image) {
+        Ok(()) => println!(out; ": good"),
+        Err(refusal) => {
+            let number = refusal.fault.number();
+            println!(out; ": refuse {number} place {}", refusal.place)
         }
     }
-    word(out, b"\n")
-}
-
-// Recognise, with the limits B, D and R.
-pub fn recognise(
-    out: &impl Print,
-    name: &[u8],
-    image: &[u8],
-    input: &[u8],
-    steps: u32,
-    depth: u32,
-    room: u32,
-) -> io::Result<()> {
-    let mut slots = [7u32; 9];
-    let answer = yarnspire::recognise(image, input, steps, depth, room, &mut slots);
-    answered(out, name, answer, slots)
-}
-
-// Recognise, with the greatest limits and as many slots as they ask for, each 7; the first nine are printed.
-pub fn ample(out: &impl Print, name: &[u8], image: &[u8], input: &[u8]) -> io::Result<()> {
-    let mut slots = [7u32; 768];
-    let answer = yarnspire::recognise(image, input, 1000000, 256, 256, &mut slots);
-    let mut first = [0u32; 9];
-    first[0] = slots[0];
-    first[1] = slots[1];
-    first[2] = slots[2];
-    first[3] = slots[3];
-    first[4] = slots[4];
-    first[5] = slots[5];
-    first[6] = slots[6];
-    first[7] = slots[7];
-    first[8] = slots[8];
-    answered(out, name, answer, first)
-}
-
-// Accepted text: the part handed back, and the six numbers, each 7 before the call.
-pub fn text(
-    out: &impl Print,
-    name: &[u8],
-    image: &[u8],
-    input: &[u8],
-    steps: u32,
-    depth: u32,
-    room: u32,
-) -> io::Result<()> {
-    let mut slots = [7u32; 9];
-    let mut kind = 7u32;
-    let mut consumed = 7u32;
-    let mut count = 7u32;
-    let mut deepest = 7u32;
-    let mut symbols = 7u32;
-    let mut place = 7u32;
-    let front = yarnspire::accepted_text(
-        image,
-        input,
-        steps,
-        depth,
-        room,
-        &mut slots,
-        &mut kind,
-        &mut consumed,
-        &mut count,
-        &mut deepest,
-        &mut symbols,
-        &mut place,
-    );
-    word(out, name)?;
-    word(out, b": text \"")?;
-    word(out, front)?;
-    number(out, b"\", ", kind)?;
-    number(out, b" ", consumed)?;
-    number(out, b" ", count)?;
-    number(out, b" ", deepest)?;
-    number(out, b" ", symbols)?;
-    number(out, b" ", place)?;
-    ended(out, slots)
 }

@@ -1,124 +1,82 @@
--- Two rows of a text, compared side by side.
-use Prim.Native.Nat.{ℕ, ◌<◌}
-use mathlib.Core.Path.{◌≡◌, refl, ap, sym, ◌∙◌}
-use mathlib.Core.Bool.{Bool, true, false}
-use mathlib.Core.List.{List, [], ◌∷◌}
-use lib.Dec.{eqb}
-use lib.ListN.{length, drop, get_or}
-use borrow.Author.Tests.{eq-eqb, ne_eqb, eqb-true, eqb-false}
-use Rattle.notation.specs.Tree.{Part}
-use Rattle.notation.specs.Lexer.{Piece, same}
+-- Two rows, compared item by item.
+use Rattle.std.proofs.Common.{◌≡◌, refl, sym, ap, ap₂, ◌∙◌, Bool, true, false, List, [], ◌∷◌, ◌++◌, map, eqb, ◌&&◌}
+use Rattle.std.specs.Prelude.{Option, Some, None, MatchOption, IfSome}
+use Rattle.std.specs.List.{AllZip}
+use Rattle.format.specs.Reading.{pick}
+use Rattle.notation.specs.Lexer.{same}
+use Rattle.notation.specs.LexicalText.{no_way}
+use Rattle.notation.specs.Tree as Tree
 use Rattle.notation.specs.Symbols.{ends}
-use Rattle.notation.specs.At.{value}
-use Rattle.chars.specs.CharLaws.{Row}
-use Rattle.chars.specs.Meant.{Reads, There}
-use Rattle.chars.proofs.RowLaws.{there_inside, there_ends, there_some, there_reads, there_on, there_value}
+use Rattle.chars.specs.Meant.{from_to}
+use Rattle.std.specs.Iterator.{YieldsFirstBy, YieldsThen, ComparesItemsByEq}
 
--- A comparison of lists: one that ends before the other differs from it.
-pub record Compares {A : Type 0} (alike : List A → List A → Bool) : Type 0 where
+-- The item that a call gave, with what is left behind it.
+abbrev last : {A B : Type 0} (v : A → B) → Option A → List B → List B
+last v None rest = []
+last v (Some x) rest = v x ∷ rest
+
+gave : {S A B : Type 0} (v : A → B) (rest : S → List B) (xs : List A) (o : Option A) (s u : S)
+    → YieldsThen (YieldsFirstBy v rest) s xs o u → rest s ≡ map v xs ++ last v o (rest u)
+gave v rest [] None s u y = ap rest y.1 ∙ y.2.0
+gave v rest [] (Some x) s u y = ap rest y.1 ∙ y.2
+gave v rest (x ∷ xs) o s u y = y.1.1 ∙ ap (λ l. v x ∷ l) (gave v rest xs o y.1.0 u (y.0, y.1.2, y.2))
+
+-- A comparison of lists, by one of their items: a list that ends before the other differs from it.
+pub record Compares {A B : Type 0} (v : A → B) (eq : A → A → Bool) (alike : List B → List B → Bool) : Type 0 where
   pub none : alike [] [] ≡ true
-  pub fewer : (y : A) (ys : List A) → alike [] (y ∷ ys) ≡ false
-  pub more : (x : A) (xs : List A) → alike (x ∷ xs) [] ≡ false
+  pub fewer : (y : B) (ys : List B) → alike [] (y ∷ ys) ≡ false
+  pub more : (x : B) (xs : List B) → alike (x ∷ xs) [] ≡ false
+  pub on : (x y : A) (xs ys : List B) → eq x y ≡ true → alike (v x ∷ xs) (v y ∷ ys) ≡ alike xs ys
+  pub off : (x y : A) (xs ys : List B) → eq x y ≡ false → alike (v x ∷ xs) (v y ∷ ys) ≡ false
 
-module _
-    {A : Type 0}
-    {alike : List A → List A → Bool}
-    (rules : Compares alike)
-    {one : List ℕ → Piece A}
-    {stop stop' : ℕ}
-    {row row' : List ℕ → Piece (List A)}
-    (law : Row one stop row)
-    (law' : Row one stop' row')
-    (text : List ℕ)
-  where
-    -- On the way: both are there, and the whole is alike exactly if the rests are.
-    pub record Compared (whole : Bool) (i j : ℕ) : Type 0 where
-      pub first : There (row (drop i text))
-      pub second : There (row' (drop j text))
-      pub rest : whole ≡ alike (value (row (drop i text))) (value (row' (drop j text)))
+module _ {A B : Type 0} {v : A → B} {eq : A → A → Bool} {alike : List B → List B → Bool} (rules : Compares v eq alike) where
+  fronts : (r : Bool) (xs ys : List A) (o p : Option A) (l m : List B) → AllZip (λ x y. eq x y ≡ true) xs ys
+      → MatchOption o (MatchOption p (r ≡ true) (λ _. r ≡ false)) (λ x. (r ≡ false) × IfSome p (λ y. eq x y ≡ false))
+      → r ≡ alike (map v xs ++ last v o l) (map v ys ++ last v p m)
+  fronts r [] [] None None l m z e = e ∙ sym rules.none
+  fronts r [] [] None (Some y) l m z e = e ∙ sym (rules.fewer (v y) m)
+  fronts r [] [] (Some x) None l m z e = e.0 ∙ sym (rules.more (v x) l)
+  fronts r [] [] (Some x) (Some y) l m z e = e.0 ∙ sym (rules.off x y l m e.1)
+  fronts r [] (y ∷ ys) o p l m z e = absurd z
+  fronts r (x ∷ xs) [] o p l m z e = absurd z
+  fronts r (x ∷ xs) (y ∷ ys) o p l m z e = fronts r xs ys o p l m z.1 e ∙ sym (rules.on x y (map v xs ++ last v o l) (map v ys ++ last v p m) z.0)
 
-module _
-    {A : Type 0}
-    {alike : List A → List A → Bool}
-    {rules : Compares alike}
-    {one : List ℕ → Piece A}
-    {stop stop' : ℕ}
-    {row row' : List ℕ → Piece (List A)}
-    {law : Row one stop row}
-    {law' : Row one stop' row'}
-    {text : List ℕ}
-  where
-    module _ {whole : Bool} {i j : ℕ} (c : Compared rules law law' text whole i j) where
-      pub first_inside : i < length text
-      first_inside = there_inside law text i c.first
+  pub compared : {S : Type 0} {rest : S → List B} {s other : S} {r : Bool}
+      → ComparesItemsByEq (YieldsFirstBy v rest) (λ x it. it ≡ x) (YieldsFirstBy v rest) s other eq r → r ≡ alike (rest s) (rest other)
+  compared {rest = rest} {s} {other} {r} c =
+      fronts r c.1 c.2 c.3 c.4 (rest c.5) (rest c.6) c.10 c.11
+      ∙ sym (ap₂ alike (gave v rest c.1 c.3 s c.5 c.8) (sym (ap rest c.7) ∙ gave v rest c.2 c.4 c.0 c.6 c.9))
 
-      pub second_inside : j < length text
-      second_inside = there_inside law' text j c.second
-
-      -- The first ends here.
-      pub compared_all : get_or text i 0 ≡ stop → eqb (get_or text j 0) stop' ≡ whole
-      compared_all e = sym (c.rest ∙ ap (λ xs. alike xs (value (row' (drop j text)))) (there_ends law text i c.first e) ∙ go (eqb (get_or text j 0) stop') refl)
-        where
-          go : (t : Bool) → eqb (get_or text j 0) stop' ≡ t → alike [] (value (row' (drop j text))) ≡ eqb (get_or text j 0) stop'
-          go true z = rw (z, there_ends law' text j c.second (eqb-true (get_or text j 0) stop' z)) rules.none
-          go false z =
-              let s = there_some law' text j c.second (eqb-false (get_or text j 0) stop' z) in rw (z, s.2) (rules.fewer s.0 s.1)
-
-      module _ (k : get_or text i 0 ≡ stop → ⊥) where
-        pub first_onward : {m : ℕ} {x : A} {n : ℕ} → Reads (one (drop i text)) m x text i n → i < n
-        first_onward r = r.onward (there_reads law text i c.first k r)
-
-        -- The second ends before the first.
-        pub compared_short : get_or text j 0 ≡ stop' → false ≡ whole
-        compared_short e =
-            let s = there_some law text i c.first k in
-            sym (c.rest ∙ rw (s.2, there_ends law' text j c.second e) (rules.more s.0 s.1))
-
-        module _ (k' : get_or text j 0 ≡ stop' → ⊥) {m m' : ℕ} {x y : A} {n o : ℕ} (r : Reads (one (drop i text)) m x text i n) (r' : Reads (one (drop j text)) m' y text j o)
-          where
-            fronts : whole ≡ alike (x ∷ value (row (drop n text))) (y ∷ value (row' (drop o text)))
-            fronts = c.rest ∙ rw (there_value law text i c.first k r, there_value law' text j c.second k' r')
-
-            pub compared_differs : ((xs ys : List A) → alike (x ∷ xs) (y ∷ ys) ≡ false) → false ≡ whole
-            compared_differs e = sym (fronts ∙ e (value (row (drop n text))) (value (row' (drop o text))))
-
-            pub compared_on : ((xs ys : List A) → alike (x ∷ xs) (y ∷ ys) ≡ alike xs ys) → Compared rules law law' text whole n o
-            compared_on e = record {
-              first = there_on law text i c.first k r;
-              second = there_on law' text j c.second k' r';
-              rest = fronts ∙ e (value (row (drop n text))) (value (row' (drop o text)));
-            }
-
--- ## Bytes
-
-pub bytes_compare : Compares same
+-- Bytes, and parts by their two bytes.
+pub bytes_compare : Compares (λ b. b) eqb same
 unfolding same
-bytes_compare = record { none = refl; fewer = λ y ys. refl; more = λ x xs. refl }
+bytes_compare = record {
+  none = refl;
+  fewer = λ y ys. refl;
+  more = λ x xs. refl;
+  on = λ x y xs ys e. rw e;
+  off = λ x y xs ys e. rw e;
+}
 
-module _ {x y : ℕ} where
-  pub bytes_alike : x ≡ y → (xs ys : List ℕ) → same (x ∷ xs) (y ∷ ys) ≡ same xs ys
-  unfolding same
-  bytes_alike e xs ys = rw (eq-eqb x y e)
-
-  pub bytes_differ : (x ≡ y → ⊥) → (xs ys : List ℕ) → same (x ∷ xs) (y ∷ ys) ≡ false
-  unfolding same
-  bytes_differ e xs ys = rw (ne_eqb x y e)
-
--- ## Parts
-
-abbrev pub same_parts : List Part → List Part → Bool
+abbrev same_parts : List Tree.Part → List Tree.Part → Bool
 same_parts ps qs = same (ends ps) (ends qs)
 
-pub parts_compare : Compares same_parts
+both : (a b z : Bool) → (a && b) ≡ true → pick a (pick b z false) false ≡ z
+both true true z e = refl
+both true false z e = no_way (cc)
+both false b z e = no_way (cc)
+
+not_both : (a b z : Bool) → (a && b) ≡ false → pick a (pick b z false) false ≡ false
+not_both true true z e = no_way (cc)
+not_both true false z e = refl
+not_both false b z e = refl
+
+pub parts_compare : Compares from_to (λ p q. eqb p.lo q.lo && eqb p.hi q.hi) same_parts
 unfolding same
-parts_compare = record { none = refl; fewer = λ y ys. refl; more = λ x xs. refl }
-
-module _ (p q : Part) where
-  pub parts_alike : p.lo ≡ q.lo → p.hi ≡ q.hi → (ps qs : List Part) → same_parts (p ∷ ps) (q ∷ qs) ≡ same_parts ps qs
-  parts_alike e f ps qs = bytes_alike e (p.hi ∷ ends ps) (q.hi ∷ ends qs) ∙ bytes_alike f (ends ps) (ends qs)
-
-  pub first_differs : (p.lo ≡ q.lo → ⊥) → (ps qs : List Part) → same_parts (p ∷ ps) (q ∷ qs) ≡ false
-  first_differs e ps qs = bytes_differ e (p.hi ∷ ends ps) (q.hi ∷ ends qs)
-
-  pub second_differs : p.lo ≡ q.lo → (p.hi ≡ q.hi → ⊥) → (ps qs : List Part) → same_parts (p ∷ ps) (q ∷ qs) ≡ false
-  second_differs e f ps qs = bytes_alike e (p.hi ∷ ends ps) (q.hi ∷ ends qs) ∙ bytes_differ f (ends ps) (ends qs)
+parts_compare = record {
+  none = refl;
+  fewer = λ y ys. refl;
+  more = λ x xs. refl;
+  on = λ x y xs ys e. both (eqb x.lo y.lo) (eqb x.hi y.hi) (same_parts xs ys) e;
+  off = λ x y xs ys e. not_both (eqb x.lo y.lo) (eqb x.hi y.hi) (same_parts xs ys) e;
+}

@@ -1,7 +1,7 @@
 -- Quoted text and classes go a byte at a time; here they go a written byte and a part at a time.
 use Rattle.std.specs.Prelude.{ℕ, ◌≡◌, Bool, drop}
 use Rattle.std.proofs.Math.Path.{refl}
-use Rattle.std.proofs.Common.{subst, ◌∙◌}
+use Rattle.std.proofs.Common.{subst, sym, ◌∙◌}
 use Rattle.std.proofs.Math.Bool.{true, false}
 use mathlib.Core.List.{List, [], ◌∷◌}
 use Rattle.std.proofs.Math.Option.{Option, some, none}
@@ -223,3 +223,6 @@ begin_on b s n =
 pub class_row : Row part_of 93 (parts begin fresh)
 unfolding parts turn at_mark
 class_row = record { over = refl; ends = λ b s e. rw (e, parts); on = begin_on }
+
+pub class_row_to : (b : ℕ) → eqb b 93 ≡ true → Row part_of b (parts begin fresh)
+class_row_to b e = subst (λ b. Row part_of b (parts begin fresh)) (sym (eqb-true b 93 e)) class_row

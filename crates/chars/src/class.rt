@@ -1,33 +1,23 @@
 // Classes.
 ghost use Rattle.std.specs.Prelude.{◌≡◌, ◌≤◌, ◌<◌, drop, length};
-ghost use Rattle.notation.specs.Lexer.{same};
+ghost use Rattle.notation.specs.Lexer.{fresh, begin, parts, same};
 ghost use Rattle.notation.specs.Symbols.{ends};
 ghost use Rattle.notation.specs.At.{parts_of};
 ghost use Rattle.chars.specs.Char.{ranges, up_to, char_of, part_of};
-ghost use Rattle.chars.specs.Meant.{ReadsPart, PartsEnd, ClassEnds, ClassAt};
+ghost use Rattle.chars.specs.Meant.{left, ReadsPart, ClassEnds, ClassAt};
 
-use crate::written::{End, char_at};
+use crate::row::{Row, row_end};
+use crate::written::{Read, char_at};
 
-// lo, hi: the bytes from one to the other; 256 where no part is. next: the place behind it.
-#[derive(Clone, Copy)]
+// A part of a class: the bytes from one to the other.
+#[derive(Clone, Copy, PartialEq, Eq)]
 pub struct Part {
-    pub lo: u16,
-    pub hi: u16,
-    pub next: usize,
-}
-
-// No part is written at a place.
-fn missing(at: usize) -> Part
-    ensures { result.lo ≡ 256 }
-{
-    Part {
-        lo: 256,
-        hi: 256,
-        next: at,
-    }
+    pub lo: u8,
+    pub hi: u8,
 }
 
 // Whether a `-` and a byte that is no `]` stand at a place.
+#[tactic(auto, using(crate::proofs::WrittenLaws::over, crate::proofs::WrittenLaws::front), unfolding(crate::specs::Char::ranges))]
 fn ranges_at(text: &[u8], at: usize) -> bool
     requires { at ≤ length text.now }
     ensures { result ≡ ranges (drop at text.now) }
@@ -39,73 +29,54 @@ fn ranges_at(text: &[u8], at: usize) -> bool
 }
 
 // The range from a byte to the one that is written at a place.
-fn range_to(text: &[u8], lo: u16, at: usize) -> Part
-    requires { lo < 256 }
+#[tactic(auto, unfolding(crate::specs::Char::up_to))]
+fn range_to(text: &[u8], lo: u8, at: usize) -> Option<Read<Part>>
     ensures { ReadsPart (up_to lo (char_of (drop at text.now))) text.now at result }
 {
-    let c = char_at(text, at);
-    let hi = c.byte;
-    if hi == 256 || hi < lo {
-        return missing(at);
+    let Read { what: hi, next } = char_at(text, at)?;
+    if hi < lo {
+        return None;
     }
-    Part {
-        lo: lo,
-        hi: hi,
-        next: c.next,
-    }
+    Some(Read {
+        what: Part { lo, hi },
+        next,
+    })
 }
 
 // The part that is written at a place.
-pub fn part_at(text: &[u8], at: usize) -> Part
+#[tactic(auto, using(crate::proofs::ClassLaws::part_none, crate::proofs::ClassLaws::part_ranges, crate::proofs::ClassLaws::part_alone, crate::proofs::WrittenLaws::behind))]
+pub fn part_at(text: &[u8], at: usize) -> Option<Read<Part>>
     ensures { ReadsPart (part_of (drop at text.now)) text.now at result }
 {
-    let c = char_at(text, at);
-    let lo = c.byte;
-    let next = c.next;
-    if lo == 256 {
-        return missing(at);
-    }
+    let Read { what: lo, next } = char_at(text, at)?;
     if ranges_at(text, next) {
         return range_to(text, lo, next + 1);
     }
-    Part {
-        lo: lo,
-        hi: lo,
-        next: next,
-    }
-}
-
-// Where the parts end that stand from `from` on.
-fn parts_end(text: &[u8], from: usize) -> End
-    ensures { PartsEnd text.now from result }
-{
-    let mut i = from;
-    while i < text.len() {
-        if text[i] == b']' {
-            return End::Behind(i + 1);
-        }
-        let p = part_at(text, i);
-        if p.lo == 256 {
-            return End::Open;
-        }
-        i = p.next;
-    }
-    End::Open
+    Some(Read {
+        what: Part { lo, hi: lo },
+        next,
+    })
 }
 
 // Where the class ends whose first byte, behind its `[`, stands at `from`.
-#[tactic(auto, using(crate::proofs::ClassLaws::class_refused))]
-pub fn class_end(text: &[u8], from: usize) -> End
+#[tactic(auto, using(crate::proofs::ClassLaws::class_over, crate::proofs::ClassLaws::class_refused, crate::proofs::ClassLaws::class_ends))]
+pub fn class_end(text: &[u8], from: usize) -> Option<usize>
     ensures { ClassEnds text.now from result }
 {
-    if text.len() <= from {
-        return End::Open;
-    }
-    let b = text[from];
+    let b = *text.get(from)?;
     if b == b'^' || b == b']' {
-        return End::Open;
+        return None;
     }
-    parts_end(text, from)
+    row_end::<Part>(text, from, b']')
+}
+
+// The parts of the class at p.
+#[tactic(auto, using(crate::proofs::RowLaws::parts_are))]
+pub fn class(text: &[u8], p: usize) -> Row<'_, Part>
+    requires { ClassAt text.now p }
+    ensures { left (λ _. parts begin fresh) result.stop result.text.now result.at ≡ parts_of (drop p text.now) }
+{
+    Row::new(text, p + 1, b']')
 }
 
 // Whether the class at p has the same parts as the one at q.
@@ -113,24 +84,7 @@ pub fn same_class(text: &[u8], p: usize, q: usize) -> bool
     requires { ClassAt text.now p × ClassAt text.now q }
     ensures { result ≡ same (ends (parts_of (drop p text.now))) (ends (parts_of (drop q text.now))) }
 {
-    let mut i = p + 1;
-    let mut j = q + 1;
-    while text[i] != b']' {
-        if text[j] == b']' {
-            return false;
-        }
-        let c = part_at(text, i);
-        let d = part_at(text, j);
-        if c.lo != d.lo {
-            return false;
-        }
-        if c.hi != d.hi {
-            return false;
-        }
-        i = c.next;
-        j = d.next;
-    }
-    text[j] == b']'
+    class(text, p).eq(class(text, q))
 }
 
 // How many parts the class at p has.
@@ -138,12 +92,5 @@ pub fn class_size(text: &[u8], p: usize) -> usize
     requires { ClassAt text.now p }
     ensures { result ≡ length (parts_of (drop p text.now)) }
 {
-    let mut i = p + 1;
-    let mut n = 0;
-    while text[i] != b']' {
-        let c = part_at(text, i);
-        i = c.next;
-        n += 1;
-    }
-    n
+    class(text, p).count()
 }

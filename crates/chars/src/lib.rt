@@ -3,4 +3,5 @@
 
 pub mod class;
 pub mod quoted;
+pub mod row;
 pub mod written;

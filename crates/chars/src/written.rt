@@ -1,117 +1,85 @@
 // A byte of quoted text or of a class, as it is written.
-ghost use Rattle.std.specs.Prelude.{◌≡◌, ◌≤◌, drop, length};
+ghost use Rattle.std.specs.Prelude.{◌≡◌, ◌≤◌, ◌<◌, drop, length, IfSome};
 ghost use Rattle.notation.specs.Bytes.{hex_digit, escape};
 ghost use Rattle.chars.specs.Char.{hex_of, escaped_of, char_of};
-ghost use Rattle.chars.specs.Meant.{below, ReadsByte};
+ghost use Rattle.chars.specs.Meant.{found, ReadsByte};
 
-// byte: what is written; 256 where no byte is. next: the place behind it.
+// What was read at a place: what is written there, and the place behind it.
 #[derive(Clone, Copy)]
-pub struct Char {
-    pub byte: u16,
+pub struct Read<T> {
+    pub what: T,
     pub next: usize,
 }
 
-// Where quoted text or a class ends: the place behind what closes it; or it is not written well, or nothing closes it.
-#[derive(Clone, Copy)]
-pub enum End {
-    Behind(usize),
-    Open,
-}
-
-// A byte, where 256 may stand as well.
-fn wide(b: u8) -> u16
-    ensures { (result ≡ b) × (result ≤ 255) }
-{
-    b as u16
-}
-
-// What a hex digit stands for; 16 if it is none.
-fn hex_value(b: u8) -> u16
-    ensures { (hex_digit b ≡ below 16 result) × (result ≤ 16) }
+// What a hex digit stands for.
+fn hex_value(b: u8) -> Option<u8>
+    ensures digit { hex_digit b ≡ found result }
+    ensures small { IfSome result (λ v. v < 16) }
 {
     match b {
-        b'0'..=b'9' => wide(b - b'0'),
-        b'A'..=b'F' => wide(b - b'A') + 10,
-        b'a'..=b'f' => wide(b - b'a') + 10,
-        _ => 16,
+        b'0'..=b'9' => Some(b - b'0'),
+        b'A'..=b'F' => Some(b - b'A' + 10),
+        b'a'..=b'f' => Some(b - b'a' + 10),
+        _ => None,
     }
 }
 
-// What a byte behind a `\` stands for; 256 if it stands for none.
-fn escape_value(b: u8) -> u16
-    ensures { (escape b ≡ below 256 result) × (result ≤ 256) }
+// What a byte behind a `\` stands for.
+fn escape_value(b: u8) -> Option<u8>
+    ensures { escape b ≡ found result }
 {
     match b {
-        b'n' => 10,
-        b'r' => 13,
-        b't' => 9,
-        b'\\' | b'\'' | b'"' | b'[' | b']' | b'-' | b'^' => wide(b),
-        _ => 256,
-    }
-}
-
-// No byte is written at a place.
-fn missing(at: usize) -> Char
-    ensures { result.byte ≡ 256 }
-{
-    Char {
-        byte: 256,
-        next: at,
+        b'n' => Some(b'\n'),
+        b'r' => Some(b'\r'),
+        b't' => Some(b'\t'),
+        b'\\' | b'\'' | b'"' | b'[' | b']' | b'-' | b'^' => Some(b),
+        _ => None,
     }
 }
 
 // The byte that the two hex digits at a place stand for.
-fn hex_at(text: &[u8], at: usize) -> Char
+#[tactic(auto, using(crate::proofs::WrittenLaws::over, crate::proofs::WrittenLaws::front), unfolding(crate::specs::Char::hex_of, crate::specs::Char::pair))]
+fn hex_at(text: &[u8], at: usize) -> Option<Read<u8>>
     requires { at ≤ length text.now }
     ensures { ReadsByte (hex_of (drop at text.now)) text.now at result }
 {
     if text.len() - at < 2 {
-        return missing(at);
+        return None;
     }
-    let high = hex_value(text[at]);
-    let low = hex_value(text[at + 1]);
-    if high == 16 || low == 16 {
-        return missing(at);
-    }
-    Char {
-        byte: high * 16 + low,
+    let high = hex_value(text[at])?;
+    let low = hex_value(text[at + 1])?;
+    Some(Read {
+        what: high * 16 + low,
         next: at + 2,
-    }
+    })
 }
 
 // The byte that the bytes behind a `\` stand for.
-fn escaped_at(text: &[u8], at: usize) -> Char
+#[tactic(auto, using(crate::proofs::WrittenLaws::over, crate::proofs::WrittenLaws::front), unfolding(crate::specs::Char::escaped_of, crate::specs::Char::one))]
+fn escaped_at(text: &[u8], at: usize) -> Option<Read<u8>>
     ensures { ReadsByte (escaped_of (drop at text.now)) text.now at result }
 {
-    if text.len() <= at {
-        return missing(at);
-    }
-    let b = text[at];
+    let b = *text.get(at)?;
     if b == b'x' {
         return hex_at(text, at + 1);
     }
-    Char {
-        byte: escape_value(b),
+    Some(Read {
+        what: escape_value(b)?,
         next: at + 1,
-    }
+    })
 }
 
 // The byte that is written at a place.
-pub fn char_at(text: &[u8], at: usize) -> Char
+#[tactic(auto, using(crate::proofs::WrittenLaws::over, crate::proofs::WrittenLaws::front), unfolding(crate::specs::Char::char_of))]
+pub fn char_at(text: &[u8], at: usize) -> Option<Read<u8>>
     ensures { ReadsByte (char_of (drop at text.now)) text.now at result }
 {
-    if text.len() <= at {
-        return missing(at);
-    }
-    let b = text[at];
-    if b == b'\\' {
-        return escaped_at(text, at + 1);
-    }
-    if b == b'\n' || b == b'\r' {
-        return missing(at);
-    }
-    Char {
-        byte: wide(b),
-        next: at + 1,
+    match *text.get(at)? {
+        b'\\' => escaped_at(text, at + 1),
+        b'\n' | b'\r' => None,
+        b => Some(Read {
+            what: b,
+            next: at + 1,
+        }),
     }
 }

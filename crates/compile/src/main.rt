@@ -2,19 +2,17 @@
 // gives nothing there; standard error says why, and where.
 #![tactic(auto)]
 
-mod before;
 mod fault;
-mod line;
-mod look;
+mod place;
 mod show;
-mod which;
+mod state;
 mod words;
 
-use files::{Taken, argument};
+use files::{TakeError, argument};
 use std::io;
 use std::rt::Files;
-use yarnspire::Compiled;
 
+// The words are looked at as in `inspect`: one function for both would take six parameters in place of these few lines.
 fn main(rt: HostRuntime) -> io::Result<()> {
     let err = rt.stderr();
     if !argument::given(&rt, 1) {
@@ -33,22 +31,16 @@ fn main(rt: HostRuntime) -> io::Result<()> {
 // One byte more than a text may have is enough to see that it has too many.
 fn read(rt: &(impl Files + Print), err: &impl Print, path: &[u8]) -> io::Result<()> {
     let mut text = [0u8; 65536];
-    let taken = files::take(rt, path, &mut text);
-    match taken {
-        Taken::Bytes(n) => write(rt, err, path, &text[..n]),
-        Taken::Unopened(why) => files::fail(err, path, why),
-        Taken::Unread(why) => files::fail(err, path, why),
+    match files::take(rt, path, &mut text) {
+        Ok(n) => write(rt, err, path, &text[..n]),
+        Err(TakeError::Unopened(why) | TakeError::Unread(why)) => files::fail(err, path, why),
     }
 }
 
 fn write(out: &impl Print, err: &impl Print, path: &[u8], text: &[u8]) -> io::Result<()> {
     let mut image = [0u8; 16384];
-    let compiled = yarnspire::compile(text, &mut image);
-    match compiled {
-        Compiled::Written(n) => {
-            let length = n as usize;
-            out.write_all(&image[..length])
-        }
-        Compiled::Refused { number, at } => fault::tell(err, path, text, number, at as usize),
+    match yarnspire::compile(text, &mut image) {
+        Ok(n) => out.write_all(&image[..n as usize]),
+        Err(refusal) => fault::tell(err, path, text, refusal),
     }
 }

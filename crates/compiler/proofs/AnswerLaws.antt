@@ -18,52 +18,42 @@ use Rattle.notation.specs.Places.{name_place}
 use Rattle.notation.specs.PlacesLaws.{is_none, image_place}
 use Rattle.notation.specs.Judged.{Answer, good, refused, or_else}
 use Rattle.notation.specs.Said.{Says}
-use Rattle.notation.specs.SaidLaws.{refused_inside}
 use Rattle.naming.specs.Found.{found}
 use Rattle.naming.specs.GatheredLaws.{reading}
-use Rattle.naming.specs.declared.found.Found.{Found}
-use Rattle.naming.specs.declared.found.Found.TheVariants.{At, Nowhere}
-use Rattle.compiler.specs.declared.image.Compiled.{Compiled}
-use Rattle.compiler.specs.declared.image.Compiled.TheVariants.{Written, Refused}
-use Rattle.compiler.specs.declared.judge.Judgement.{Judgement}
-use Rattle.compiler.specs.declared.judge.Judgement.TheVariants as J
-use Rattle.compiler.specs.Compiles.{Compiles}
+use Rattle.std.specs.declared.option.Option as Std
+use Rattle.std.specs.declared.option.Option.TheVariants.{Some, None}
+use Rattle.std.specs.Prelude.{Ok, Err}
+use Rattle.compiler.specs.declared.refusal.Refusal.{Refusal}
+use Rattle.compiler.specs.Refusals.{number_of}
+use Rattle.compiler.specs.Compiles.{Compiled, Compiles}
 use Rattle.compiler.specs.Images.{Lends}
-use Rattle.compiler.specs.Judges.{Passes, Judges}
+use Rattle.compiler.specs.Judges.{Passes}
 use Rattle.compiler.proofs.RuledLaws.{over_image, said_passed}
 
 -- A refusal leaves the buffer as it is.
-pub refuses : {text before : List ℕ} {number p : ℕ} → Says text (length before) (refused number p) → Compiles text before before (Refused number p)
-refuses {number = number} {p} s = record { says = (refused number p, s, (refl, refl, refl)) }
-
--- A judgement that refuses is given, and its place is in the text.
-module _ (text : List ℕ) {j : Judgement} {number p : ℕ} (is : Judges text j) (e : j ≡ J.Refused number p) where
-  pub judged_refuses : (before : List ℕ) → Compiles text before before (Refused number p)
-  judged_refuses before = refuses (subst (Judges text) e is (length before))
-
-  pub judged_inside : p ≤ length text
-  judged_inside = refused_inside (subst (Judges text) e is 0)
+pub refuses : {text before : List ℕ} (r : Refusal) → Says text (length before) (refused (number_of r.slip) r.place) → Compiles text before before (Err r)
+refuses r s = record { says = (refused (number_of r.slip) r.place, s, (refl, refl, refl)) }
 
 -- ## What is given where the rules let pass
 
 -- By what was found.
 module _ (name : Lexeme → ℕ) where
   by_found :
-      (o : Option Lexeme) {f : Found} {q : ℕ} (later : Answer) → f ≡ found name o → f ≡ At q → or_else o (λ l. refused 24 (name l)) later ≡ refused 24 q
+      (o : Option Lexeme) {f : Std.Option ℕ} {q : ℕ} (later : Answer) → f ≡ found name o → f ≡ Some q → or_else o (λ l. refused 24 (name l)) later ≡ refused 24 q
   by_found none later e h = no_way (cc)
   by_found (some l) {f} {q} later e h = let z : name l ≡ q = cc in ap (refused 24) z
 
-  by_nothing : (o : Option Lexeme) {f : Found} → f ≡ found name o → f ≡ Nowhere → o ≡ none
+  by_nothing : (o : Option Lexeme) {f : Std.Option ℕ} → f ≡ found name o → f ≡ None → o ≡ none
   by_nothing none e h = refl
   by_nothing (some l) e h = no_way (cc)
 
-module _ {text : List ℕ} (short : length text ≤ 65535) {ps : List Production} (p : Passes text ps) {f : Found} (e : f ≡ found (name_place text) (over_image text ps)) where
+module _ {text : List ℕ} (short : length text ≤ 65535) {ps : List Production} (p : Passes text ps) {f : Std.Option ℕ} (e : f ≡ found (name_place text) (over_image text ps)) where
   -- The image is too long with a production.
-  pub over_said : {q : ℕ} → f ≡ At q → (room : ℕ) → Says text room (refused 24 q)
+  pub over_said : {q : ℕ} → f ≡ Some q → (room : ℕ) → Says text room (refused 24 q)
   over_said h room = subst (Says text room) (by_found (name_place text) (over_image text ps) _ e h) (said_passed short p room)
 
   -- It is not too long.
-  module _ (h : f ≡ Nowhere) where
+  module _ (h : f ≡ None) where
     nothing_over : over_image text ps ≡ none
     nothing_over = by_nothing (name_place text) (over_image text ps) e h
 
@@ -82,6 +72,6 @@ module _ {text : List ℕ} (short : length text ≤ 65535) {ps : List Production
         said = rw nothing_over at (said_passed short p (length before))
 
         go : (r : Compiled) → Lends (encode g) before after r → Compiles text before after r
-        go (Written n) l = record { says = (good g, rw (le-leb (length (encode g)) (length before) l.0) at said, (l.1, l.2)) }
-        go (Refused number at) l =
-            record { says = (refused 25 0, rw (lt-leb (length (encode g)) (length before) l.0) at said, (l.1, l.2, l.3)) }
+        go (Ok n) l = record { says = (good g, rw (le-leb (length (encode g)) (length before) l.0) at said, (l.1, l.2)) }
+        go (Err r) l =
+            record { says = (refused 25 0, rw (lt-leb (length (encode g)) (length before) l.0) at said, (ap number_of l.1, l.2, l.3)) }

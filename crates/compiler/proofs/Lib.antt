@@ -1,6 +1,5 @@
 -- Laws that several proofs cite.
 pub mod ListedLaws
-pub mod JudgeLaws
 pub mod RuledLaws
 pub mod AnswerLaws
 pub mod FewLaws
@@ -8,4 +7,3 @@ pub mod NumberLaws
 pub mod PartLaws
 pub mod EmitLaws
 pub mod MadeLaws
-pub mod LendLaws

@@ -13,10 +13,11 @@ use Rattle.index.specs.Listed.{Ascending}
 use Rattle.naming.specs.Gathered.{sort_of, gathered, Gathers}
 use Rattle.naming.specs.GatheredLaws.{gathered_bound, gathered_ascending}
 use Rattle.naming.specs.declared.gather.Gathered.{Gathered}
+use Rattle.naming.specs.declared.gather.Sort.{Sort}
 use Rattle.writer.specs.Named.{names_of}
 
 -- An array of 32,768 places is enough for any sort.
-pub enough : (sort : ℕ) (text : List ℕ) → length text ≤ 65535 → length (gathered (sort_of sort) [] (lexemes text)) < 32768
+pub enough : (sort : Sort) (text : List ℕ) → length text ≤ 65535 → length (gathered (sort_of sort) [] (lexemes text)) < 32768
 enough sort text h = omega (arith, gathered_bound sort text)
 
 module _ {f : Token → List Name} {text at : List ℕ} {r : Gathered} (G : Gathers f text at r) where

@@ -15,14 +15,13 @@ use Rattle.notation.specs.Judged.{refused}
 use Rattle.notation.specs.Said.{Says}
 use Rattle.naming.specs.Found.{found}
 use Rattle.naming.specs.Sized.{nodes_of, Sized}
-use Rattle.naming.specs.declared.found.Found.{Found}
-use Rattle.naming.specs.declared.found.Found.TheVariants.{At, Nowhere}
+use Rattle.std.specs.declared.option.Option as Std
+use Rattle.std.specs.declared.option.Option.TheVariants.{Some, None}
 use Rattle.writer.specs.Put.{Wrote, AllSmall}
 use Rattle.emitter.specs.Stage.{bytes_of}
 use Rattle.emitter.specs.Emitted.{nodes_up_to}
 use Rattle.writer.specs.declared.node.Made.{Made}
-use Rattle.compiler.specs.declared.image.Compiled.{Compiled}
-use Rattle.compiler.specs.Compiles.{Compiles}
+use Rattle.compiler.specs.Compiles.{Compiled, Compiles}
 use Rattle.compiler.specs.Images.{Lends, Makes}
 use Rattle.compiler.proofs.RuledLaws.{over_image, held}
 use Rattle.compiler.proofs.FewLaws.{few_productions}
@@ -88,7 +87,7 @@ module _ {text out patterns ends : List ℕ} {switches start : ℕ} {made : Made
         }
 
     -- By what `over_image` finds.
-    module _ {f : Found} (o : (ps : List Production) (g : Grammar) → ReadsAs text ps → Sized g base ends ps → f ≡ found (name_place text) (first_over 16384 (image_up_to g) 0 ps (only is_head (lexemes text)))) where
+    module _ {f : Std.Option ℕ} (o : (ps : List Production) (g : Grammar) → ReadsAs text ps → Sized g base ends ps → f ≡ found (name_place text) (first_over 16384 (image_up_to g) 0 ps (only is_head (lexemes text)))) where
       over_is : f ≡ found (name_place text) (over_image text m.productions)
       over_is = o m.productions grammar m.passes.reading sized
 
@@ -96,10 +95,10 @@ module _ {text out patterns ends : List ℕ} {switches start : ℕ} {made : Made
       whole_is = ap₂ ◌++◌ (w.front ∙ headed_is) m.emits.nodes_written
 
       module _ (short : length text ≤ 65535) where
-        pub said_over : {q : ℕ} → f ≡ At q → (room : ℕ) → Says text room (refused 24 q)
+        pub said_over : {q : ℕ} → f ≡ Some q → (room : ℕ) → Says text room (refused 24 q)
         said_over = over_said short m.passes over_is
 
-        module _ (h : f ≡ Nowhere) where
+        module _ (h : f ≡ None) where
           pub whole_short : length (take base now) + length (take made.length out) ≤ 65535
           whole_short =
               omega (

@@ -16,7 +16,6 @@ use Rattle.notation.specs.Token.{Lexeme, bare}
 use Rattle.notation.specs.Notation.{Productions}
 use Rattle.notation.specs.Limits.{short}
 use Rattle.notation.specs.Lexer.{lexemes, tokens}
-use Rattle.notation.specs.LexicalText.{no_way}
 use Rattle.notation.specs.Stream.{streamed}
 use Rattle.notation.specs.Reader.{trees, parsed}
 use Rattle.notation.specs.Text.{ReadsAs}
@@ -30,26 +29,26 @@ use Rattle.notation.specs.Said.{Says, unread, read}
 use Rattle.naming.specs.Found.{found}
 use Rattle.naming.specs.GatheredLaws.{reading}
 use Rattle.walker.specs.Tells.{Tells}
-use Rattle.walker.specs.declared.walk.Reading.{Reading}
-use Rattle.walker.specs.declared.walk.Reading.TheVariants.{Whole, Stopped}
-use Rattle.compiler.specs.declared.judge.Judgement.{Judgement}
-use Rattle.compiler.specs.declared.judge.Judgement.TheVariants.{Passed, Refused}
-use Rattle.compiler.specs.Judges.{refusal, ◌then◌, lacks, twice, differs, ninth_table, ninth_switch, long_text, over_nodes, ruled, Passes, Judges}
+use Rattle.walker.specs.declared.walk.Unread.{Unread}
+use Rattle.std.specs.Prelude.{Ok, Err}
+use Rattle.compiler.specs.declared.refusal.Slip.TheVariants.{Undefined, Twice, Unlike, OverLimit}
+use Rattle.compiler.specs.Refusals.{number_of}
+use Rattle.compiler.specs.Judges.{Judgement, cleared, ◌then◌, lacks, twice, differs, ninth_table, ninth_switch, long_text, over_nodes, ruled, Passes, Judges}
 
 -- ## Judgements as answers
 
 -- A refusal, or what is said where the judgement lets pass.
 abbrev answered : Judgement → Answer → Answer
-answered Passed later = later
-answered (Refused number p) later = refused number p
+answered (Ok _) later = later
+answered (Err r) later = refused (number_of r.slip) r.place
 
 -- Seven searches, one after the other: as the rules go by them, and as an answer does.
 module _ (name token : Lexeme → ℕ) where
   abbrev searched : (a b c d e f g : Option Lexeme) → Judgement
   searched a b c d e f g =
-      (refusal 21 (found name a) then refusal 22 (found name b))
-      then refusal 23 (found token c)
-      then refusal 24 (found name d) then refusal 24 (found name e) then refusal 24 (found token f) then refusal 24 (found name g)
+      (cleared Undefined (found name a) then cleared Twice (found name b))
+      then cleared Unlike (found token c)
+      then cleared OverLimit (found name d) then cleared OverLimit (found name e) then cleared OverLimit (found token f) then cleared OverLimit (found name g)
 
   abbrev answers : (a b c d e f g : Option Lexeme) → Answer → Answer
   answers a b c d e f g later =
@@ -71,15 +70,15 @@ module _ (name token : Lexeme → ℕ) where
 
   -- Where all pass, nothing was found.
   searched_none :
-      (a b c d e f g : Option Lexeme) → searched a b c d e f g ≡ Passed
+      (a b c d e f g : Option Lexeme) → searched a b c d e f g ≡ Ok tt
       → (is_none a ≡ true) × (is_none b ≡ true) × (is_none c ≡ true) × (is_none d ≡ true) × (is_none e ≡ true) × (is_none f ≡ true) × (is_none g ≡ true)
-  searched_none (some l) b c d e f g q = no_way (cc)
-  searched_none none (some l) c d e f g q = no_way (cc)
-  searched_none none none (some l) d e f g q = no_way (cc)
-  searched_none none none none (some l) e f g q = no_way (cc)
-  searched_none none none none none (some l) f g q = no_way (cc)
-  searched_none none none none none none (some l) g q = no_way (cc)
-  searched_none none none none none none none (some l) q = no_way (cc)
+  searched_none (some l) b c d e f g q = absurd (cc)
+  searched_none none (some l) c d e f g q = absurd (cc)
+  searched_none none none (some l) d e f g q = absurd (cc)
+  searched_none none none none (some l) e f g q = absurd (cc)
+  searched_none none none none none (some l) f g q = absurd (cc)
+  searched_none none none none none none (some l) g q = absurd (cc)
+  searched_none none none none none none none (some l) q = absurd (cc)
   searched_none none none none none none none none q = (refl, refl, refl, refl, refl, refl, refl)
 
 -- ## All that is said of a reading
@@ -141,20 +140,19 @@ module _ {text : List ℕ} (short : length text ≤ 65535) where
   pub said_passed : {ps : List Production} → Passes text ps → (room : ℕ) → Says text room (imaged text ps room)
   said_passed {ps} p room = rw p.passes at (said_ruled p.reading room)
 
-  pub stopped_said : {r : Reading} {p : ℕ} → Tells text r → r ≡ Stopped p → (room : ℕ) → Says text room (refused 20 p)
-  stopped_said t e room = unread short (subst (Tells text) e t).1
+  pub stopped_said : {u : Unread} → Tells text (Err u) → (room : ℕ) → Says text room (refused 20 u.at)
+  stopped_said t room = unread short t.1
 
-  pub whole_said :
-      (j : Judgement) {r : Reading} → Tells text r → r ≡ Whole → ((ps : List Production) → ReadsAs text ps → j ≡ ruled text ps) → Judges text j
+  pub whole_said : (j : Judgement) {v : Unit {0}} → Tells text (Ok v) → ((ps : List Production) → ReadsAs text ps → j ≡ ruled text ps) → Judges text j
   unfolding parsed
-  whole_said j t e f = go j refl
+  whole_said j t f = go j refl
     where
       ps : List Production
       ps = trees (streamed (tokens text))
 
       reading : ReadsAs text ps
-      reading = derived text ps (rw (subst (Tells text) e t))
+      reading = derived text ps (rw t)
 
       go : (i : Judgement) → j ≡ i → Judges text i
-      go Passed q = (ps, record { reading = reading; passes = sym (f ps reading) ∙ q })
-      go (Refused number p) q = λ room. rw (sym (f ps reading) ∙ q) at (said_ruled reading room)
+      go (Ok tt) q = (ps, record { reading = reading; passes = sym (f ps reading) ∙ q })
+      go (Err r) q = λ room. rw (sym (f ps reading) ∙ q) at (said_ruled reading room)

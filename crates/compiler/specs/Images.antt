@@ -1,5 +1,5 @@
 -- What the functions that make an image promise.
-use Rattle.std.specs.Prelude.{ℕ, ◌≤◌, ◌<◌, ◌≡◌, List, ◌++◌, length, drop}
+use Rattle.std.specs.Prelude.{ℕ, ◌≤◌, ◌<◌, ◌≡◌, List, ◌++◌, length, drop, Ok, Err}
 use Rattle.notation.specs.Tree.{Name, Production}
 use Rattle.notation.specs.Naming.{names, conditions}
 use Rattle.notation.specs.Naming as Naming
@@ -9,13 +9,13 @@ use Rattle.writer.specs.Named.{names_of, production_by}
 use Rattle.emitter.specs.Emitted.{Emits}
 use Rattle.writer.specs.declared.node.Made.{Made}
 use Rattle.compiler.specs.Judges.{Passes}
-use Rattle.compiler.specs.declared.image.Compiled.{Compiled}
-use Rattle.compiler.specs.declared.image.Compiled.TheVariants.{Written, Refused}
+use Rattle.compiler.specs.declared.refusal.Slip.TheVariants.{NoRoom}
+use Rattle.compiler.specs.Compiles.{Compiled}
 
 -- An image goes to the front of a buffer that has the room; else it is 25, and the buffer is as it was.
 abbrev pub Lends : (bytes before after : List ℕ) → Compiled → Type 0
-Lends bytes before after (Written n) = (length bytes ≤ length before) × (n ≡ length bytes) × (after ≡ bytes ++ drop (length bytes) before)
-Lends bytes before after (Refused number at) = (length before < length bytes) × (number ≡ 25) × (at ≡ 0) × (after ≡ before)
+Lends bytes before after (Ok n) = (length bytes ≤ length before) × (n ≡ length bytes) × (after ≡ bytes ++ drop (length bytes) before)
+Lends bytes before after (Err r) = (length before < length bytes) × (r.slip ≡ NoRoom) × (r.place ≡ 0) × (after ≡ before)
 
 -- The text reads as productions that passed, and these are the places of its names: those of productions, tables and conditions, each in byte
 -- order, each once.

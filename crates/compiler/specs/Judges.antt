@@ -1,5 +1,5 @@
 -- What the rules say of a reading, before its image is made: 21 to 23, and 24 but for the image.
-use Rattle.std.specs.Prelude.{ℕ, ◌≡◌, List, [], map}
+use Rattle.std.specs.Prelude.{ℕ, ◌≡◌, List, [], map, Result, Ok, Err, ⊤}
 use Rattle.std.proofs.Math.Option.{Option}
 use Rattle.notation.specs.Tree.{Production}
 use Rattle.notation.specs.Token.{Lexeme}
@@ -11,21 +11,27 @@ use Rattle.notation.specs.Places.{token_place, name_place, first_where, first_na
 use Rattle.notation.specs.Judged.{refused}
 use Rattle.notation.specs.Said.{Says}
 use Rattle.naming.specs.Found.{found}
-use Rattle.naming.specs.declared.found.Found.{Found}
-use Rattle.naming.specs.declared.found.Found.TheVariants.{At, Nowhere}
-use Rattle.compiler.specs.declared.judge.Judgement.{Judgement}
-use Rattle.compiler.specs.declared.judge.Judgement.TheVariants.{Passed, Refused}
+use Rattle.std.specs.declared.option.Option as Std
+use Rattle.std.specs.declared.option.Option.TheVariants.{Some, None}
+use Rattle.compiler.specs.declared.refusal.Slip.{Slip}
+use Rattle.compiler.specs.declared.refusal.Slip.TheVariants.{Undefined, Twice, Unlike, OverLimit}
+use Rattle.compiler.specs.declared.refusal.Refusal.{Refusal}
+use Rattle.compiler.specs.Refusals.{number_of}
 
 infixr 20 ◌then◌
+-- A text passes, or it is refused.
+abbrev pub Judgement : Type 0
+Judgement = Result ⊤ Refusal
+
 -- Refused where something was found.
-abbrev pub refusal : ℕ → Found → Judgement
-refusal number (At p) = Refused number p
-refusal number Nowhere = Passed
+abbrev pub cleared : Slip → Std.Option ℕ → Judgement
+cleared slip (Some p) = Err (record { slip = slip; place = p })
+cleared slip None = Ok tt
 
 -- The first of two judgements, or the second where the first lets pass.
 abbrev pub ◌then◌ : Judgement → Judgement → Judgement
-◌then◌ Passed later = later
-◌then◌ (Refused number p) later = Refused number p
+◌then◌ (Ok _) later = later
+◌then◌ (Err r) later = Err r
 
 -- The rules, for a text that reads as these productions.
 module _ (text : List ℕ) (ps : List Production) where
@@ -54,17 +60,17 @@ module _ (text : List ℕ) (ps : List Production) where
 
   -- 21 and 22, 23, and 24.
   abbrev pub by_names : Judgement
-  by_names = refusal 21 (found (name_place text) lacks) then refusal 22 (found (name_place text) twice)
+  by_names = cleared Undefined (found (name_place text) lacks) then cleared Twice (found (name_place text) twice)
 
   abbrev pub by_patterns : Judgement
-  by_patterns = refusal 23 (found (token_place text) differs)
+  by_patterns = cleared Unlike (found (token_place text) differs)
 
   abbrev pub by_limits : Judgement
   by_limits =
-      refusal 24 (found (name_place text) ninth_table)
-      then refusal 24 (found (name_place text) ninth_switch)
-      then refusal 24 (found (token_place text) long_text)
-      then refusal 24 (found (name_place text) over_nodes)
+      cleared OverLimit (found (name_place text) ninth_table)
+      then cleared OverLimit (found (name_place text) ninth_switch)
+      then cleared OverLimit (found (token_place text) long_text)
+      then cleared OverLimit (found (name_place text) over_nodes)
 
   -- All rules, in their order.
   unfoldable pub ruled : Judgement
@@ -73,9 +79,12 @@ module _ (text : List ℕ) (ps : List Production) where
 -- The text reads as productions of which every rule holds.
 pub record Passes (text : List ℕ) (ps : List Production) : Type 0 where
   pub reading : ReadsAs text ps
-  pub passes : ruled text ps ≡ Passed
+  pub passes : ruled text ps ≡ Ok tt
+
+abbrev pub Passed : List ℕ → Type 0
+Passed text = (ps : List Production) × Passes text ps
 
 -- A judgement that refuses is said of the text, whatever room there is for its image.
 abbrev pub Judges : List ℕ → Judgement → Type 0
-Judges text Passed = (ps : List Production) × Passes text ps
-Judges text (Refused number p) = (room : ℕ) → Says text room (refused number p)
+Judges text (Ok _) = Passed text
+Judges text (Err r) = (room : ℕ) → Says text room (refused (number_of r.slip) r.place)

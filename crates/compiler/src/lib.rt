@@ -4,3 +4,4 @@
 pub mod compile;
 pub mod image;
 pub mod judge;
+pub mod refusal;

@@ -4,10 +4,9 @@ use mathlib.Core.Path.{◌≡◌, refl, ap, ap₂, sym, ◌∙◌, subst, fun_ex
 use mathlib.Core.Bool.{Bool, true, false}
 use mathlib.Core.List.{List, [], ◌∷◌, ◌++◌, map}
 use native.Mathlib.Omega.{arith}
-use lib.Dec.{eqb, leb}
+use lib.Dec.{eqb}
 use lib.ListN.{length, take, get_or, replicate, length-append, length-map, length-take}
 use lib.Seq.{length-take-le, get_or-take}
-use borrow.Author.Tests.{leb-true, leb-false}
 use Rattle.format.specs.Reading.{pick}
 use Rattle.format.specs.Written.{written, encode_node}
 use Rattle.notation.specs.Tree.{Name, Opener, Production}
@@ -28,8 +27,12 @@ use Rattle.notation.specs.Patterns.{none_yet, known_behind, nothing_known}
 use Rattle.index.specs.Listed.{Ascending}
 use Rattle.index.specs.PlaceLaws.{names_length}
 use Rattle.walker.specs.declared.walk.Walk.{Walk}
+use Rattle.lexer.specs.declared.token.Token.{Token}
+use Rattle.walker.specs.declared.act.Open.{Open}
+use Rattle.walker.specs.declared.walk.Symbol as W
 use Rattle.walker.specs.declared.walk.Step.{Step}
-use Rattle.walker.specs.Walks.{rest, Walks, symbol_at, Gives, Nexts, Begins}
+use Rattle.walker.specs.Walks.{rest, Walks, symbol_at, Gives, NextsBy, Nexts, Begins}
+use Rattle.emitter.specs.declared.state.Opened.{Opened}
 use Rattle.emitter.specs.declared.state.State.{State}
 use Rattle.writer.specs.Named.{names_of, place_by, production_by, Numbered}
 use Rattle.emitter.specs.Known.{known_of, Tells}
@@ -79,7 +82,7 @@ module _ {text heads roots tables switches : List ℕ} (R : Ready text heads roo
 
 -- ## On the way
 
-pub record Going (text heads roots tables switches out patterns ends stack done opened : List ℕ) (s : State) (w : Walk) : Type 0 where
+pub record Going (text heads roots tables switches out patterns ends : List ℕ) (stack : List Open) (done : List ℕ) (opened : List Opened) (s : State) (w : Walk) : Type 0 where
   pub ready : Ready text heads roots tables switches
   pub left : List Symbol
   pub stage : Stage
@@ -104,7 +107,7 @@ read_symbols : (text : List ℕ) (ps : List Production) → ReadsAs text ps → 
 read_symbols text ps r = ap (λ ls. streamed (bare ls)) (lexes_once r.lexes) ∙ reads_derived r.derives
 
 pub going_first :
-    {text heads roots tables switches out patterns ends stack done opened : List ℕ} {w : Walk} → Ready text heads roots tables switches → length out ≡ 33792
+    {text heads roots tables switches out patterns ends : List ℕ} {stack : List Open} {done : List ℕ} {opened : List Opened} {w : Walk} → Ready text heads roots tables switches → length out ≡ 33792
     → patterns ≡ replicate (length tables) 512 → length ends ≡ 512 → length stack ≡ 65536 → length done ≡ 512 → length opened ≡ 512
     → Begins text 0 start w
     → Going text heads roots tables switches out patterns ends stack done opened (record { made = record { nodes = 0; length = 0 }; complete = 0; openers = 0; ended = 0 }) w
@@ -168,14 +171,6 @@ ends_more production table condition (x ∷ ss) st = omega (arith, one x, ends_m
     one (back q) = unfold ends_after in omega arith
     one (joins b) = unfold ends_after in omega arith
 
--- A symbol's number that is below 40 is one of 0 to 21.
-pub symbol_low : (n : ℕ) → (22 ≤ n → 40 ≤ n) → n < 40 → n ≤ 21
-symbol_low n f h = go (leb n 21) refl
-  where
-    go : (b : Bool) → leb n 21 ≡ b → n ≤ 21
-    go true e = leb-true n 21 e
-    go false e = let k = f (leb-false n 21 e) in omega arith
-
 -- ## What a symbol asks for is there
 
 module _ (ts : List Name) (production table condition : Name → ℕ) (ss : List Symbol) (s : State) (st : Stage) (k : s.made.nodes ≡ length st.nodes) (e : s.ended < 512) where
@@ -212,7 +207,7 @@ module _ (ts : List Name) (production table condition : Name → ℕ) (ss : List
   apt_by (joins b) (y ∷ x ∷ rs) os p c o f =
       let l = length-append st.nodes (new_nodes production table condition (joins b) (at (y ∷ x ∷ rs) os)) in (omega arith, omega arith)
 
-module _ {text : List ℕ} {ts : List Name} {out patterns ends done opened : List ℕ} {s : State} {st : Stage} (S : Shown text ts out patterns ends done opened s st) where
+module _ {text : List ℕ} {ts : List Name} {out patterns ends done : List ℕ} {opened : List Opened} {s : State} {st : Stage} (S : Shown text ts out patterns ends done opened s st) where
   complete_many : s.complete ≡ length st.complete
   complete_many = sym (row_length (λ i. get_or done i 0) s.complete) ∙ ap length S.complete_shown
 
@@ -234,7 +229,7 @@ module _ {text : List ℕ} {ts : List Name} {out patterns ends done opened : Lis
 -- ## A symbol on
 
 module _
-    {text heads roots tables switches out patterns ends stack done opened : List ℕ} {s : State} {w : Walk}
+    {text heads roots tables switches out patterns ends : List ℕ} {stack : List Open} {done : List ℕ} {opened : List Opened} {s : State} {w : Walk}
     (G : Going text heads roots tables switches out patterns ends stack done opened s w)
   where
     abbrev calls : Name → ℕ
@@ -265,11 +260,11 @@ module _
     pub going_ends : s.ended < 512
     going_ends = omega (arith, ends_many G.shown, ends_more calls numbers turns G.left G.stage, ap (λ r. length r.ends) G.comes, soon)
 
-    module _ {now : List ℕ} {step : Step} (g : Gives text stack now w step) where
+    module _ {now : List Open} {x : W.Symbol} {t : Token} {v : Walk} (g : Gives text stack now w x t v) where
       abbrev symbol : Symbol
-      symbol = symbol_at text step.symbol step.token
+      symbol = symbol_at text t x
 
-      some_left : (us : List Symbol) × (G.left ≡ symbol ∷ us) × (rest text now step.walk ≡ (us ▸▸ ended))
+      some_left : (us : List Symbol) × (G.left ≡ symbol ∷ us) × (rest text now v ≡ (us ▸▸ ended))
       some_left = left_some G.left (sym G.goes ∙ g.goes)
 
       sane_here : Sane (names_of text tables) calls numbers turns (symbol ∷ some_left.0) G.stage
@@ -284,9 +279,9 @@ module _
           (omega (arith, ap (λ r. length r.ends) comes_here, soon))
 
       pub going_on :
-          {out' patterns' ends' done' opened' : List ℕ} {r : State}
+          {out' patterns' ends' done' : List ℕ} {opened' : List Opened} {r : State}
           → Shown text (names_of text tables) out' patterns' ends' done' opened' r (after calls numbers turns symbol G.stage) → length now ≡ length stack
-          → Going text heads roots tables switches out' patterns' ends' now done' opened' r step.walk
+          → Going text heads roots tables switches out' patterns' ends' now done' opened' r v
       unfolding run
       going_on S l = record {
         ready = G.ready;
@@ -301,13 +296,13 @@ module _
       }
 
     -- What gives no symbol has ended.
-    pub last : {now : List ℕ} {step : Step} → Nexts text stack now w step → 40 ≤ step.symbol → rest text stack w ≡ ended
-    last {step = step} n h = go (leb step.symbol 40) refl
+    pub last : {now : List Open} {step : Step} → Nexts text stack now w step → ((x : W.Symbol) (t : Token) (v : Walk) → step ≡ Step.Symbol x t v → ⊥) → rest text stack w ≡ ended
+    last {now} {step} n h = go step refl n.nexts
       where
-        go : (b : Bool) → leb step.symbol 40 ≡ b → rest text stack w ≡ ended
-        go true e = let k = leb-true step.symbol 40 e in n.ends (omega arith)
-        go false e =
-            let k = leb-false step.symbol 40 e in absurd (not_broken G.left (sym G.goes ∙ n.breaks (omega (arith, n.numbers.1))))
+        go : (z : Step) → step ≡ z → NextsBy text stack now w z → rest text stack w ≡ ended
+        go (Step.Symbol x t v) e k = absurd (h x t v e)
+        go Step.Ended e k = k
+        go Step.Broken e k = absurd (not_broken G.left (sym G.goes ∙ k))
 
     -- ## At the end
 

@@ -1,5 +1,5 @@
 -- What the arrays of a walk show.
-use Rattle.std.specs.Prelude.{ℕ, zero, suc, ◌+◌, ◌-◌, ◌*◌, ◌/◌, ◌%◌, ◌≤◌, ◌<◌, ◌≡◌, true, List, [], ◌∷◌, ◌++◌, eqb, length, take, get_or}
+use Rattle.std.specs.Prelude.{ℕ, zero, suc, ◌+◌, ◌-◌, ◌*◌, ◌≤◌, ◌<◌, ◌≡◌, Bool, true, false, List, [], ◌∷◌, ◌++◌, eqb, length, take, get_or}
 use Rattle.std.proofs.Math.Option.{Option, some, none}
 use Rattle.format.specs.Reading.{pick}
 use Rattle.format.specs.Written.{written, encode_node}
@@ -11,11 +11,10 @@ use Rattle.notation.specs.Naming.{member, all}
 use Rattle.notation.specs.Limits.{short}
 use Rattle.notation.specs.Compile.{leaf_count, prefix_count, suffix_count}
 use Rattle.notation.specs.Patterns.{Known, begun, ends_at, brings, note}
-use Rattle.lexer.specs.declared.token.Token.{Token}
-use Rattle.lexer.specs.Meant.{opener_at}
-use Rattle.walker.specs.Walks.{Taken}
+use Rattle.lexer.specs.declared.token.Opener.TheVariants.{Def}
 use Rattle.writer.specs.declared.node.Made.{Made}
 use Rattle.emitter.specs.declared.state.State.{State}
+use Rattle.emitter.specs.declared.state.Opened.{Opened}
 use Rattle.writer.specs.Put.{Adds}
 use Rattle.writer.specs.Named.{place_by, production_by}
 use Rattle.writer.specs.Operator.{opener_of}
@@ -29,21 +28,33 @@ row_of f (suc n) = f n ∷ row_of f n
 
 -- ## Operators that are open
 
--- The table whose pattern an operator brings, by its mark.
-unfoldable pub brought_of : (mark : ℕ) → Name → Option Name
-brought_of m n = pick (eqb m 9) (some n) none
+-- The table whose pattern an operator brings, if it does.
+abbrev pub brought_of : (brings : Bool) → Name → Option Name
+brought_of b n = pick b (some n) none
 
--- The operator that was kept i-th, and the table whose pattern it brings. What is kept is the place of its name, times 16, and its mark.
-abbrev pub opener_in : (text opened : List ℕ) → ℕ → Opener
-opener_in text opened i = opener_of (get_or opened i 0 % 16) (name_at text (get_or opened i 0 / 16))
+-- What was kept i-th: the operator, and the table whose pattern it brings.
+abbrev pub unopened : Opened
+unopened = record { opener = Def; name = 0; brings = false }
 
-abbrev pub brought_in : (text opened : List ℕ) → ℕ → Option Name
-brought_in text opened i = brought_of (get_or opened i 0 % 16) (name_at text (get_or opened i 0 / 16))
+abbrev pub opened_at : List Opened → ℕ → Opened
+opened_at opened i = get_or opened i unopened
 
-abbrev pub openers_at : (text opened : List ℕ) → ℕ → List Opener
+abbrev pub opener_kept : List ℕ → Opened → Opener
+opener_kept text o = opener_of o.opener (name_at text o.name)
+
+abbrev pub brought_kept : List ℕ → Opened → Option Name
+brought_kept text o = brought_of o.brings (name_at text o.name)
+
+abbrev pub opener_in : (text : List ℕ) → List Opened → ℕ → Opener
+opener_in text opened i = opener_kept text (opened_at opened i)
+
+abbrev pub brought_in : (text : List ℕ) → List Opened → ℕ → Option Name
+brought_in text opened i = brought_kept text (opened_at opened i)
+
+abbrev pub openers_at : (text : List ℕ) → List Opened → ℕ → List Opener
 openers_at text opened = row_of (opener_in text opened)
 
-abbrev pub brought_at : (text opened : List ℕ) → ℕ → List (Option Name)
+abbrev pub brought_at : (text : List ℕ) → List Opened → ℕ → List (Option Name)
 brought_at text opened = row_of (brought_in text opened)
 
 -- The table that an operator defines is one of these.
@@ -53,12 +64,10 @@ Tabled ts (block t) = Unit
 Tabled ts (local t) = Unit
 Tabled ts (on c w) = Unit
 
--- An operator begins with this mark: it is the one that the token is, and the tables know of it.
-pub record Marks (text : List ℕ) (ts : List Name) (was : List ℕ) (t : Token) (now : List ℕ) (mark : ℕ) : Type 0 where
-  pub low : mark < 16
-  pub opener : opener_of mark (name_at text t.name) ≡ opener_at text t
-  pub brought : (f : Name → Known) → Tells was ts f → brought_of mark (name_at text t.name) ≡ brings (opener_at text t) f
-  pub tells : (f : Name → Known) → Tells was ts f → Tells now ts (note (brings (opener_at text t) f) begun f)
+-- An operator begins, with this name: whether it brings a pattern, and what the tables know then.
+pub record Marks (ts : List Name) (was : List ℕ) (o : Opener) (n : Name) (now : List ℕ) (first : Bool) : Type 0 where
+  pub brought : (f : Name → Known) → Tells was ts f → brought_of first n ≡ brings o f
+  pub tells : (f : Name → Known) → Tells was ts f → Tells now ts (note (brings o f) begun f)
   pub long : length now ≡ length was
 
 -- An operator has ended: where it brings a table's pattern, that has this node.
@@ -66,13 +75,13 @@ pub record Ends (was : List ℕ) (ts : List Name) (brought : Option Name) (node 
   pub tells : (f : Name → Known) → Tells was ts f → Tells now ts (note brought (ends_at node) f)
   pub long : length now ≡ length was
 
--- An operator that a token is has begun.
-pub record Enters (text : List ℕ) (ts : List Name) (was opened : List ℕ) (s : State) (t : Token) (now after : List ℕ) (r : State) : Type 0 where
+-- An operator has begun.
+pub record Enters (text : List ℕ) (ts : List Name) (was : List ℕ) (opened : List Opened) (s : State) (o : Opener) (now : List ℕ) (after : List Opened) (r : State) : Type 0 where
   pub state : r ≡ record { made = s.made; complete = s.complete; openers = s.openers + 1; ended = s.ended }
-  pub openers : openers_at text after (s.openers + 1) ≡ opener_at text t ∷ openers_at text opened s.openers
+  pub openers : openers_at text after (s.openers + 1) ≡ o ∷ openers_at text opened s.openers
   pub brought : (f : Name → Known) → Tells was ts f
-      → brought_at text after (s.openers + 1) ≡ brings (opener_at text t) f ∷ brought_at text opened s.openers
-  pub tells : (f : Name → Known) → Tells was ts f → Tells now ts (note (brings (opener_at text t) f) begun f)
+      → brought_at text after (s.openers + 1) ≡ brings o f ∷ brought_at text opened s.openers
+  pub tells : (f : Name → Known) → Tells was ts f → Tells now ts (note (brings o f) begun f)
   pub long : (length now ≡ length was) × (length after ≡ length opened)
 
 -- ## Expressions that are complete
@@ -119,7 +128,7 @@ pub record Holds (out : List ℕ) (m : Made) (xs : List Expr) : Type 0 where
   pub long : length out ≡ 33792
 
 -- What is known between two symbols is in the arrays.
-pub record Shown (text : List ℕ) (ts : List Name) (out patterns ends done opened : List ℕ) (s : State) (st : Stage) : Type 0 where
+pub record Shown (text : List ℕ) (ts : List Name) (out patterns ends done : List ℕ) (opened : List Opened) (s : State) (st : Stage) : Type 0 where
   pub holds : Holds out s.made st.nodes
   pub complete_shown : complete_at done s.complete ≡ st.complete
   pub openers_shown : openers_at text opened s.openers ≡ st.openers
@@ -147,11 +156,6 @@ Apt ts leaves s = (1 ≤ s.complete) × (1 ≤ s.openers) × (s.openers ≤ 512)
 Apt ts (front p) s = (1 ≤ s.complete) × (s.made.nodes + prefix_count p ≤ 512)
 Apt ts (back q) s = (1 ≤ s.complete) × (s.made.nodes + suffix_count q ≤ 512)
 Apt ts (joins b) s = (2 ≤ s.complete) × (s.made.nodes < 512)
-
--- A symbol was given, and up to 14 a token was taken for it.
-pub record Given (text : List ℕ) (n : ℕ) (t : Token) : Type 0 where
-  pub most : n ≤ 21
-  pub taken : n ≤ 14 → Taken text n t
 
 -- What a symbol does, by what the slices tell of names.
 abbrev pub after_by : (text heads roots tables switches : List ℕ) → Symbol → Stage → Stage

@@ -1,17 +1,16 @@
 -- What storing in the arrays of a walk shows.
-use Rattle.std.specs.Prelude.{ℕ, zero, suc, ◌+◌, ◌-◌, ◌*◌, ◌/◌, ◌%◌, ◌≤◌, ◌<◌, ◌≡◌, refl, List, ◌∷◌, length, get_or, set}
-use Rattle.std.proofs.Common.{ap, ap₂, ◌∙◌, arith, add-one, length-set, get_or-set_same, get_or-set_other}
+use Rattle.std.specs.Prelude.{ℕ, zero, suc, ◌+◌, ◌-◌, ◌≤◌, ◌<◌, ◌≡◌, refl, List, ◌∷◌, length, get_or, set}
+use Rattle.std.proofs.Common.{ap, ◌∙◌, arith, add-one, length-set, get_or-set_same, get_or-set_other}
 use Rattle.grammar.specs.Expr.{Expr}
 use Rattle.notation.specs.Tree.{Name, Leaf, any, quoted, class, call, query, if, leaf}
 use Rattle.notation.specs.At.{name_at}
 use Rattle.notation.specs.Compile.{leaf_count, leaf_nodes, count, emit}
 use Rattle.notation.specs.MeansLaws.{emit_length}
-use Rattle.lexer.specs.declared.token.Token.{Token}
 use Rattle.writer.specs.declared.node.Made.{Made}
 use Rattle.emitter.specs.declared.state.State.{State}
+use Rattle.emitter.specs.declared.state.Opened.{Opened}
 use Rattle.writer.specs.Put.{Adds}
-use Rattle.writer.specs.Operator.{opener_of}
-use Rattle.emitter.specs.Shown.{row_of, brought_of, openers_at, brought_at, Marks, Enters, complete_at, Settles, Grows}
+use Rattle.emitter.specs.Shown.{row_of, unopened, opener_kept, brought_kept, brought_at, Marks, Enters, complete_at, Settles, Grows}
 
 -- ## Rows
 
@@ -32,20 +31,20 @@ row_more f n = rw (add-one n)
 
 -- One more, stored behind the first i.
 row_push :
-    {A : Type 0} (f : ℕ → A) (l : List ℕ) (i v : ℕ) → i < length l
-    → row_of (λ j. f (get_or (set l i v) j 0)) (i + 1) ≡ f v ∷ row_of (λ j. f (get_or l j 0)) i
-row_push f l i v h =
-    row_more (λ j. f (get_or (set l i v) j 0)) i
-    ∙ rw (get_or-set_same l i v 0 h)
+    {A B : Type 0} (f : B → A) (d : B) (l : List B) (i : ℕ) (v : B) → i < length l
+    → row_of (λ j. f (get_or (set l i v) j d)) (i + 1) ≡ f v ∷ row_of (λ j. f (get_or l j d)) i
+row_push f d l i v h =
+    row_more (λ j. f (get_or (set l i v) j d)) i
+    ∙ rw (get_or-set_same l i v d h)
     (ap (λ r. f v ∷ r)
-    (row_same (λ j. f (get_or (set l i v) j 0)) (λ j. f (get_or l j 0)) i (λ j k. ap f (get_or-set_other l i j v 0 (λ e. omega arith)))))
+    (row_same (λ j. f (get_or (set l i v) j d)) (λ j. f (get_or l j d)) i (λ j k. ap f (get_or-set_other l i j v d (λ e. omega arith)))))
 
 -- ## What is complete
 
 pub settles_set :
     (done : List ℕ) (m : Made) (depth openers ended : ℕ) → depth < length done
     → Settles done m depth openers ended (set done depth (m.nodes - 1)) (record { made = m; complete = depth + 1; openers = openers; ended = ended })
-settles_set done m depth openers ended h = record { state = refl; row = row_push (λ n. n) done depth (m.nodes - 1) h; long = length-set done depth (m.nodes - 1) }
+settles_set done m depth openers ended h = record { state = refl; row = row_push (λ n. n) 0 done depth (m.nodes - 1) h; long = length-set done depth (m.nodes - 1) }
 
 pub grows_settled :
     {was done now after : List ℕ} {s r : State} {m : Made} {depth openers : ℕ} {new : List Expr} → Adds was s.made now m new
@@ -77,29 +76,15 @@ leaf_some (if c w) = omega arith
 
 -- ## What is open
 
-module _ (p m : ℕ) (h : m < 16) where
-  mark_kept : (p * 16 + m) % 16 ≡ m
-  mark_kept = omega arith
-
-  place_kept : (p * 16 + m) / 16 ≡ p
-  place_kept = omega arith
-
 pub enters_set :
-    {text : List ℕ} {ts : List Name} {was : List ℕ} {t : Token} {now : List ℕ} {mark : ℕ} (opened : List ℕ) (s : State) → s.openers < length opened
-    → Marks text ts was t now mark
-    → Enters text ts was opened s t now (set opened s.openers (t.name * 16 + mark))
+    {text : List ℕ} {ts : List Name} {was now : List ℕ} (opened : List Opened) (s : State) (v : Opened) → s.openers < length opened
+    → Marks ts was (opener_kept text v) (name_at text v.name) now v.brings
+    → Enters text ts was opened s (opener_kept text v) now (set opened s.openers v)
     (record { made = s.made; complete = s.complete; openers = s.openers + 1; ended = s.ended })
-enters_set {text} {ts} {was} {t} {now} {mark} opened s h m =
-    let i = s.openers in
-    let v = t.name * 16 + mark in
-    let k = mark_kept t.name mark m.low in
-    let l = place_kept t.name mark m.low in
-    record {
-      state = refl;
-      openers = row_push (λ n. opener_of (n % 16) (name_at text (n / 16))) opened i v h
-          ∙ ap (λ o. o ∷ openers_at text opened i) (ap₂ (λ n p. opener_of n (name_at text p)) k l ∙ m.opener);
-      brought = λ f T. row_push (λ n. brought_of (n % 16) (name_at text (n / 16))) opened i v h
-          ∙ ap (λ o. o ∷ brought_at text opened i) (ap₂ (λ n p. brought_of n (name_at text p)) k l ∙ m.brought f T);
-      tells = m.tells;
-      long = (m.long, length-set opened i v);
-    }
+enters_set {text} opened s v h m = record {
+  state = refl;
+  openers = row_push (opener_kept text) unopened opened s.openers v h;
+  brought = λ f T. row_push (brought_kept text) unopened opened s.openers v h ∙ ap (λ o. o ∷ brought_at text opened s.openers) (m.brought f T);
+  tells = m.tells;
+  long = (m.long, length-set opened s.openers v);
+}

@@ -1,27 +1,29 @@
 -- What the arms of a step do to the arrays is what a symbol does to what is known.
 use Prim.Native.Nat.{ℕ, zero, suc, ◌+◌, ◌-◌, ◌≤◌}
-use Rattle.std.specs.Prelude.{◌≡◌, Bool, true, false, eqb, take}
+use Rattle.std.specs.Prelude.{◌≡◌, take}
 use Rattle.std.proofs.Math.Path.{refl, ap, ap₂, sym}
-use Rattle.std.proofs.Common.{◌∙◌, subst, length-append, eqb-true}
+use Rattle.std.proofs.Common.{◌∙◌, subst, length-append}
 use mathlib.Core.List.{List, [], ◌∷◌, ◌++◌, append-nil}
 use Rattle.std.proofs.Math.Option.{Option}
 use native.Mathlib.Omega.{arith}
 use Rattle.std.proofs.Math.ListN.{length, drop, get_or}
-use Rattle.std.proofs.lemmas.Bool.{eqb-false}
 use Rattle.format.specs.Written.{written, encode_node}
 use Rattle.grammar.specs.Expr.{Expr}
-use Rattle.notation.specs.Tree.{Name, Leaf, Prefix, and, not, Suffix, option, star, plus, Binary, sequence, choice, Opener}
+use Rattle.notation.specs.Tree.{Name, Leaf, Prefix, and, not, Suffix, option, star, plus, sequence, choice, Opener}
 use Rattle.notation.specs.Stream.{Symbol, named, stands, enters, leaves, front, back, joins}
-use Rattle.notation.specs.Compile.{leaf_nodes, prefix_count, suffix_count, prefix_nodes, suffix_nodes, binary_node, operator_node}
+use Rattle.notation.specs.Compile.{leaf_nodes, prefix_count, suffix_count, prefix_nodes, suffix_nodes, operator_node}
 use Rattle.notation.specs.Patterns.{ends_at, brings, note}
-use Rattle.lexer.specs.declared.token.Token.{Token}
-use Rattle.lexer.specs.Meant.{opener_at}
-use Rattle.walker.specs.Walks.{plain_of}
+use Rattle.lexer.specs.Meant.{suffix_of}
 use Rattle.writer.specs.declared.node.Made.{Made}
+use Rattle.writer.specs.declared.operator.Unary.{Unary}
+use Rattle.writer.specs.declared.operator.Unary.TheVariants.{And, Not, After}
+use Rattle.writer.specs.declared.operator.Binary.{Binary}
+use Rattle.writer.specs.declared.operator.Binary.TheVariants.{Sequence, Choice}
 use Rattle.emitter.specs.declared.state.State.{State}
+use Rattle.emitter.specs.declared.state.Opened.{Opened}
 use Rattle.writer.specs.Put.{Room, Adds}
 use Rattle.writer.specs.PutLaws.{written_on}
-use Rattle.writer.specs.Operator.{first_of, second_of, unary_nodes, binary_of}
+use Rattle.writer.specs.Operator.{unary_nodes, binary_of}
 use Rattle.emitter.specs.Known.{Tells}
 use Rattle.emitter.specs.Stage.{Stage, latest, bringing, closing, new_nodes, over, complete_after, openers_after, brought_after, known_after, ends_after, after}
 use Rattle.emitter.specs.Shown.{row_of, opener_in, brought_in, openers_at, brought_at, Ends, Enters, complete_at, Grows, Starts, Holds, Shown}
@@ -68,31 +70,16 @@ row_second f n h =
     let e : n - 1 - 1 ≡ n - 2 = omega arith in
     ap latest (row_drop f n (omega arith)) ∙ row_latest f (n - 1) (omega arith) ∙ ap f e
 
--- ## Prefixes and suffixes by their numbers
+-- ## Prefixes, suffixes and what joins two
 
-pub data Unary (n : ℕ) : Type 0 where
-  a_front : (p : Prefix) → plain_of n ≡ front p → ((a k : ℕ) → unary_nodes n a k ≡ prefix_nodes p a k) → Unary n
-  a_back : (q : Suffix) → plain_of n ≡ back q → ((a k : ℕ) → unary_nodes n a k ≡ suffix_nodes q a k) → Unary n
+abbrev pub unary_symbol : Unary → Symbol
+unary_symbol And = front and
+unary_symbol Not = front not
+unary_symbol (After s) = back (suffix_of s)
 
-pub unary : (n : ℕ) → 15 ≤ n → n ≤ 19 → Unary n
-unfolding plain_of first_of second_of
-unary n h k = and? (eqb n 15) refl
-  where
-    star? : (b : Bool) → eqb n 18 ≡ b → (n ≡ 15 → ⊥) → (n ≡ 16 → ⊥) → (n ≡ 17 → ⊥) → Unary n
-    star? true e x y z = let q = eqb-true n 18 e in a_back star (rw q) (λ a k. rw q)
-    star? false e x y z = let w = eqb-false n 18 e in let q : n ≡ 19 = omega arith in a_back plus (rw q) (λ a k. rw q)
-
-    option? : (b : Bool) → eqb n 17 ≡ b → (n ≡ 15 → ⊥) → (n ≡ 16 → ⊥) → Unary n
-    option? true e x y = let q = eqb-true n 17 e in a_back option (rw q) (λ a k. rw q)
-    option? false e x y = star? (eqb n 18) refl x y (eqb-false n 17 e)
-
-    not? : (b : Bool) → eqb n 16 ≡ b → (n ≡ 15 → ⊥) → Unary n
-    not? true e x = let q = eqb-true n 16 e in a_front not (rw q) (λ a k. rw q)
-    not? false e x = option? (eqb n 17) refl x (eqb-false n 16 e)
-
-    and? : (b : Bool) → eqb n 15 ≡ b → Unary n
-    and? true e = let q = eqb-true n 15 e in a_front and (rw q) (λ a k. rw q)
-    and? false e = not? (eqb n 16) refl (eqb-false n 15 e)
+abbrev pub binary_symbol : Binary → Symbol
+binary_symbol Sequence = joins sequence
+binary_symbol Choice = joins choice
 
 pub prefix_length : (p : Prefix) (a k : ℕ) → length (prefix_nodes p a k) ≡ prefix_count p
 prefix_length and a k = refl
@@ -103,22 +90,11 @@ suffix_length option a k = refl
 suffix_length star a k = refl
 suffix_length plus a k = refl
 
-pub data Joining (n : ℕ) : Type 0 where
-  a_join : (b : Binary) → plain_of n ≡ joins b → ((x y : ℕ) → binary_of n x y ≡ binary_node b x y) → Joining n
-
-pub joining : (n : ℕ) → 20 ≤ n → n ≤ 21 → Joining n
-unfolding plain_of binary_of
-joining n h k = sequence? (eqb n 20) refl
-  where
-    sequence? : (b : Bool) → eqb n 20 ≡ b → Joining n
-    sequence? true e = let q = eqb-true n 20 e in a_join sequence (rw q) (λ x y. rw q)
-    sequence? false e = let w = eqb-false n 20 e in let q : n ≡ 21 = omega arith in a_join choice (rw q) (λ x y. rw q)
-
 -- ## A symbol is taken
 
 module _
     (production table condition : Name → ℕ)
-    {text : List ℕ} {ts : List Name} {out patterns ends done opened : List ℕ} {s : State} {st : Stage}
+    {text : List ℕ} {ts : List Name} {out patterns ends done : List ℕ} {opened : List Opened} {s : State} {st : Stage}
     (S : Shown text ts out patterns ends done opened s st)
   where
     -- What nodes were added, and what is complete and open behind them, is what the symbol says.
@@ -164,21 +140,23 @@ module _
       below : complete_at done (s.complete - 1) ≡ drop 1 st.complete
       below = sym (row_drop (λ i. get_or done i 0) s.complete h) ∙ ap (drop 1) S.complete_shown
 
+      operands : (u : Unary) → unary_nodes u (get_or done (s.complete - 1) 0) s.made.nodes ≡ unary_nodes u (latest st.complete) (length st.nodes)
+      operands u = ap₂ (unary_nodes u) (sym operand) S.holds.many
+
+      complete : (u : Unary)
+          → over st.nodes (unary_nodes u (get_or done (s.complete - 1) 0) s.made.nodes) (complete_at done (s.complete - 1))
+          ≡ over st.nodes (unary_nodes u (latest st.complete) (length st.nodes)) (drop 1 st.complete)
+      complete u = ap₂ (λ new below. (length st.nodes + length new - 1) ∷ below) (operands u) below
+
       pub shown_follow :
-          (n : ℕ) → Unary n → {now laid : List ℕ} {r : State}
-          → Grows out done s (s.complete - 1) s.openers (unary_nodes n (get_or done (s.complete - 1) 0) s.made.nodes) now laid r
-          → Shown text ts now patterns ends laid opened r (after production table condition (plain_of n) st)
-      unfolding new_nodes complete_after openers_after brought_after known_after ends_after
-      shown_follow n (a_front p e u) g =
-          let v : unary_nodes n (get_or done (s.complete - 1) 0) s.made.nodes ≡ prefix_nodes p (latest st.complete) (length st.nodes) =
-          u (get_or done (s.complete - 1) 0) s.made.nodes ∙ ap₂ (prefix_nodes p) (sym operand) S.holds.many in
-          rw e (shown_grown (front p) g (omega (arith, S.tall)) v
-          (ap₂ (λ new below. (length st.nodes + length new - 1) ∷ below) v below) S.openers_shown S.brought_shown S.known_shown refl)
-      shown_follow n (a_back q e u) g =
-          let v : unary_nodes n (get_or done (s.complete - 1) 0) s.made.nodes ≡ suffix_nodes q (latest st.complete) (length st.nodes) =
-          u (get_or done (s.complete - 1) 0) s.made.nodes ∙ ap₂ (suffix_nodes q) (sym operand) S.holds.many in
-          rw e (shown_grown (back q) g (omega (arith, S.tall)) v
-          (ap₂ (λ new below. (length st.nodes + length new - 1) ∷ below) v below) S.openers_shown S.brought_shown S.known_shown refl)
+          (u : Unary) {now laid : List ℕ} {r : State}
+          → Grows out done s (s.complete - 1) s.openers (unary_nodes u (get_or done (s.complete - 1) 0) s.made.nodes) now laid r
+          → Shown text ts now patterns ends laid opened r (after production table condition (unary_symbol u) st)
+      unfolding new_nodes complete_after openers_after brought_after known_after ends_after unary_nodes
+      shown_follow And g = shown_grown (front and) g (omega (arith, S.tall)) (operands And) (complete And) S.openers_shown S.brought_shown S.known_shown refl
+      shown_follow Not g = shown_grown (front not) g (omega (arith, S.tall)) (operands Not) (complete Not) S.openers_shown S.brought_shown S.known_shown refl
+      shown_follow (After q) g =
+          shown_grown (back (suffix_of q)) g (omega (arith, S.tall)) (operands (After q)) (complete (After q)) S.openers_shown S.brought_shown S.known_shown refl
 
       -- The latest operator ends.
       pub shown_leave :
@@ -201,23 +179,31 @@ module _
           (subst (λ m. Tells known ts (note m (ends_at (length st.nodes - 1)) st.known)) (ap bringing b)
           (subst (λ n. Tells known ts (note (fb (s.openers - 1)) (ends_at (n - 1)) st.known)) S.holds.many (d.tells st.known S.known_shown))) refl
 
-    pub shown_join :
-        2 ≤ s.complete → (n : ℕ) → Joining n → {now laid : List ℕ} {r : State}
-        → Grows out done s (s.complete - 2) s.openers (binary_of n (get_or done (s.complete - 2) 0) (get_or done (s.complete - 1) 0) ∷ []) now laid r
-        → Shown text ts now patterns ends laid opened r (after production table condition (plain_of n) st)
-    unfolding new_nodes complete_after openers_after brought_after known_after ends_after
-    shown_join h n (a_join b e u) g =
-        let f : ℕ → ℕ = λ i. get_or done i 0 in
-        let x : latest (drop 1 st.complete) ≡ f (s.complete - 2) = ap (λ l. latest (drop 1 l)) (sym S.complete_shown) ∙ row_second f s.complete h in
-        let v : binary_of n (f (s.complete - 2)) (f (s.complete - 1)) ∷ [] ≡ binary_node b (latest (drop 1 st.complete)) (latest st.complete) ∷ [] =
-        ap (λ z. z ∷ []) (u (f (s.complete - 2)) (f (s.complete - 1)) ∙ ap₂ (binary_node b) (sym x) (sym (operand (omega arith)))) in
-        let w : complete_at done (s.complete - 2) ≡ drop 2 st.complete = sym (row_drop_two f s.complete h) ∙ ap (drop 2) S.complete_shown in
-        rw e (shown_grown (joins b) g (omega (arith, S.tall)) v (ap₂ (λ new below. (length st.nodes + length new - 1) ∷ below) v w)
-        S.openers_shown S.brought_shown S.known_shown refl)
+    module _ (h : 2 ≤ s.complete) where
+      pair : (x : Binary) → binary_of x (get_or done (s.complete - 2) 0) (get_or done (s.complete - 1) 0) ∷ [] ≡ binary_of x (latest (drop 1 st.complete)) (latest st.complete) ∷ []
+      pair x =
+          let f : ℕ → ℕ = λ i. get_or done i 0 in
+          let e : latest (drop 1 st.complete) ≡ f (s.complete - 2) = ap (λ l. latest (drop 1 l)) (sym S.complete_shown) ∙ row_second f s.complete h in
+          ap₂ (λ a b. binary_of x a b ∷ []) (sym e) (sym (operand (omega arith)))
+
+      joined : (x : Binary)
+          → over st.nodes (binary_of x (get_or done (s.complete - 2) 0) (get_or done (s.complete - 1) 0) ∷ []) (complete_at done (s.complete - 2))
+          ≡ over st.nodes (binary_of x (latest (drop 1 st.complete)) (latest st.complete) ∷ []) (drop 2 st.complete)
+      joined x =
+          ap₂ (λ new below. (length st.nodes + length new - 1) ∷ below) (pair x)
+          (sym (row_drop_two (λ i. get_or done i 0) s.complete h) ∙ ap (drop 2) S.complete_shown)
+
+      pub shown_join :
+          (x : Binary) {now laid : List ℕ} {r : State}
+          → Grows out done s (s.complete - 2) s.openers (binary_of x (get_or done (s.complete - 2) 0) (get_or done (s.complete - 1) 0) ∷ []) now laid r
+          → Shown text ts now patterns ends laid opened r (after production table condition (binary_symbol x) st)
+      unfolding new_nodes complete_after openers_after brought_after known_after ends_after binary_of
+      shown_join Sequence g = shown_grown (joins sequence) g (omega (arith, S.tall)) (pair Sequence) (joined Sequence) S.openers_shown S.brought_shown S.known_shown refl
+      shown_join Choice g = shown_grown (joins choice) g (omega (arith, S.tall)) (pair Choice) (joined Choice) S.openers_shown S.brought_shown S.known_shown refl
 
     -- What adds no node.
     shown_none :
-        (x : Symbol) {known ended laid : List ℕ} {r : State} → r.made ≡ s.made → new_nodes production table condition x st ≡ []
+        (x : Symbol) {known ended : List ℕ} {laid : List Opened} {r : State} → r.made ≡ s.made → new_nodes production table condition x st ≡ []
         → complete_at done r.complete ≡ complete_after production table condition x st → r.complete ≤ r.made.nodes
         → openers_at text laid r.openers ≡ openers_after x st
         → brought_at text laid r.openers ≡ brought_after x st
@@ -240,11 +226,10 @@ module _
     }
 
     pub shown_enter :
-        {t : Token} {known laid : List ℕ} {r : State} → Enters text ts patterns opened s t known laid r
-        → Shown text ts out known ends done laid r (after production table condition (enters (opener_at text t)) st)
+        {o : Opener} {known : List ℕ} {laid : List Opened} {r : State} → Enters text ts patterns opened s o known laid r
+        → Shown text ts out known ends done laid r (after production table condition (enters o) st)
     unfolding new_nodes complete_after openers_after brought_after known_after ends_after
-    shown_enter {t = t} {r = r} g =
-        let o = opener_at text t in
+    shown_enter {o = o} {r = r} g =
         let m = ap (λ r. r.made) g.state in
         let c = ap (λ r. r.complete) g.state in
         let n = ap (λ r. r.openers) g.state in

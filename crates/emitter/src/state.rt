@@ -2,7 +2,16 @@
 ghost use Rattle.std.specs.Prelude.{◌≡◌, ◌≤◌, ◌<◌, length};
 ghost use Rattle.emitter.specs.Shown.{Settles, EndsOne};
 
+use lexer::token::Opener;
 use writer::node::Made;
+
+// An operator in angle brackets that is open: the place of its name, and whether it is the def that brings its table's pattern.
+#[derive(Clone, Copy, PartialEq, Eq, Debug)]
+pub struct Opened {
+    pub opener: Opener,
+    pub name: usize,
+    pub brings: bool,
+}
 
 // made: the nodes so far. complete: how many expressions are complete. openers: how many operators in angle brackets are open. ended: how many productions have ended.
 #[derive(Clone, Copy)]
@@ -28,8 +37,8 @@ pub(crate) fn settle(
     State {
         made: m,
         complete: depth + 1,
-        openers: openers,
-        ended: ended,
+        openers,
+        ended,
     }
 }
 

@@ -18,15 +18,12 @@ pub fn given(env: &impl Env, i: usize) -> bool {
 pub fn word(env: &impl Env, i: usize, buf: &mut [u8]) -> io::Result<usize>
     ensures { WritesAtMost result buf.new }
 {
-    match env.arg(i, buf) {
-        Ok(n) => Ok(n),
-        Err(why) => Err(io::Error::from_raw_os_error(number_of(why))),
-    }
+    env.arg(i, buf).map_err(error_of)
 }
 
-fn number_of(why: FillError) -> i32 {
-    match why {
+fn error_of(why: FillError) -> io::Error {
+    io::Error::from_raw_os_error(match why {
         FillError::TooLong => TOO_LONG,
         FillError::NotPresent => MISSING,
-    }
+    })
 }

@@ -1,25 +1,30 @@
 -- A loop that puts readings down, by the code's own values.
-use Prim.Native.Nat.{ℕ, ◌+◌, ◌≤◌, ◌<◌}
-use mathlib.Core.Path.{◌≡◌, refl, ap, sym, ◌∙◌}
-use mathlib.Core.List.{List}
-use lib.ListN.{set}
-use Rattle.reader.specs.declared.number.Number.{Number}
-use Rattle.reader.specs.declared.number.Read.{Read}
-use Rattle.reader.specs.declared.number.Read.TheVariants.{Got, Refused}
+use Rattle.std.proofs.Common.{ℕ, ◌+◌, ◌<◌, ◌≡◌, ap, sym, subst, ◌∙◌, List, set, Result, Ok, Err, IsErrAnd}
+use Rattle.reader.specs.declared.reader.Reader.{Reader}
+use Rattle.reader.specs.declared.refusal.Refusal.{Refusal}
+use Rattle.reader.specs.Meant.{Reads}
 use Rattle.format.specs.Reading.{Reading}
 use Rattle.image.specs.Filled.{Fills}
-use Rattle.image.specs.FilledLaws.{Filling, filling_more, filling_stops, filling_ends}
-use Rattle.reader.specs.Meant.{reading}
+use Rattle.image.specs.FilledLaws.{Filling, filling_more, filling_stops}
 
-module _ (p : ℕ → ℕ → Reading ℕ) (to N : ℕ) {start : ℕ} {before now : List ℕ} {i at : ℕ} (f : Filling p to N start before now i at) where
-  pub put_down :
-      (j : ℕ) → j ≡ to + i → i < N → {r : Read} {n : Number} → reading r ≡ p i at → r ≡ Got n
-      → Filling p to N start before (set now j n.value) (i + 1) n.next
-  put_down j is h e g = rw is (filling_more p to N f h (sym (ap reading g) ∙ e))
+-- What holds of a refusal holds of the result that a `?` hands on.
+pub err_is : {T E : Type 0} (P : Result T E → Type 0) {r : Result T E} {e : E} → IsErrAnd r (λ x. x ≡ e) → P (Err e) → P r
+err_is P {r = Ok _} q p = elim q [ ]
+err_is P {r = Err x} q p = subst (λ e. P (Err e)) (sym q) p
 
-  pub refused_at : i < N → (r : Read) → ((n : Number) → r ≡ Got n → ⊥) → reading r ≡ p i at → Fills p to N start before now r
-  refused_at h (Got n) t e = absurd (t n refl)
-  refused_at h (Refused r) t e = let s = filling_stops p to N f h e in record { result = s.0; array = s.1 }
+module _ (p : List ℕ → ℕ → ℕ → Reading ℕ) (to N : ℕ) {from middle : Reader} {before now : List ℕ} {i : ℕ}
+    (f : Filling (p from.image.now) to N from.at before now i middle.at × (middle.image ≡ from.image)) where
+  -- One more is read and put down.
+  pub one_more :
+      {after : Reader} {w : ℕ} (j : ℕ) → j ≡ to + i → i < N → Reads (p middle.image.now i) middle after (Ok w)
+      → Filling (p from.image.now) to N from.at before (set now j w) (i + 1) after.at × (after.image ≡ from.image)
+  one_more j is h r =
+      (rw is (filling_more (p from.image.now) to N f.0 h (r.result ∙ ap (λ image. p image.now i middle.at) f.1)), r.image ∙ f.1)
 
-  pub all_down : N ≤ i → Fills p to N start before now (Got (record { value = N; next = at }))
-  all_down h = let s = filling_ends p to N f h in record { result = s.0; array = s.1 }
+  -- One cannot be read.
+  pub one_refused :
+      {after : Reader} {e : Refusal} {r : Result (Unit {0}) Refusal} → IsErrAnd r (λ x. x ≡ e) → i < N → Reads (p middle.image.now i) middle after (Err e)
+      → Fills (p from.image.now) to N from after before now r
+  one_refused {after} q h r =
+      let s = filling_stops (p from.image.now) to N f.0 h (r.result ∙ ap (λ image. p image.now i middle.at) f.1) in
+      err_is (Fills (p from.image.now) to N from after before now) q (record { result = s.0; image = r.image ∙ f.1; array = s.1 })

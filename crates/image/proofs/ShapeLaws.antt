@@ -1,43 +1,24 @@
 -- Laws of the shapes of operands: what the functions over them need, and which kind has which shape.
-use Prim.Native.Nat.{ℕ, zero, suc, ◌+◌, ◌-◌, ◌*◌, ◌≤◌, ◌<◌}
-use mathlib.Core.Path.{◌≡◌, refl, ap, sym, subst, ◌∙◌}
-use mathlib.Core.Bool.{Bool, true, false}
+use Prim.Native.Nat.{ℕ, zero, suc, ◌+◌, ◌≤◌, ◌<◌}
+use mathlib.Core.Path.{◌≡◌, ap, sym, subst, ◌∙◌}
 use mathlib.Core.List.{List}
 use mathlib.Core.Logic.{⊎_elim}
 use native.Mathlib.Omega.{arith}
 use native.Mathlib.Nat.{eq-or-lt_of_le}
-use lib.Dec.{leb, eqb}
-use lib.ListN.{take, drop, length, get_or, length-drop}
-use lib.Seq.{length-take-le}
-use borrow.Author.Tests.{le-leb, lt-leb, leb-true}
-use Rattle.grammar.specs.Expr.{Expr, Byte, Range, Text, Sequence, Choice, Star, Not, Call, Def, Match, Is, Isa, Exists, Block, Local, If, On}
-use Rattle.reader.specs.declared.number.Number.{Number}
-use Rattle.reader.specs.declared.number.Read.{Read}
-use Rattle.reader.specs.declared.number.Read.TheVariants.{Got}
-use Rattle.format.specs.Reading.{Reading, got, fault, pick, ◌then◌}
-use Rattle.format.specs.ReadingLaws.{All, holds, ◌▹◌, of_got, then_assoc, then_ext}
-use Rattle.format.specs.Image.{bounded, raw, kinds}
+use lib.Dec.{eqb}
+use lib.ListN.{get_or}
+use Rattle.grammar.specs.Expr.{Expr, Range, Sequence, Choice, Star, Not, Def, Match, Is, Isa, Exists, Block, Local, If, On}
+use Rattle.std.specs.Prelude.{Result, Ok}
+use Rattle.reader.specs.declared.reader.Reader.{Reader}
+use Rattle.reader.specs.declared.refusal.Refusal.{Refusal}
+use Rattle.format.specs.Reading.{Reading, got, fault, ◌then◌}
+use Rattle.format.specs.ReadingLaws.{onward, then_assoc, then_ext}
+use Rattle.format.specs.Image.{bounded, kinds}
 use Rattle.format.specs.ImageLaws.{number_all, bit_back}
 use Rattle.image.specs.Word.{packed, switch, keep, word_at}
-use Rattle.image.specs.Shapes.{word1, switched, last_at, bytes_at, truth_of, one_at, two_at, range_at, text_at, switch_at, if_at, on_at}
-use Rattle.reader.specs.Meant.{reading}
-
-module _ (image : List ℕ) where
-  pub bytes_cut : (k at : ℕ) → length image < at + k → fault 2 (length image) ≡ bytes_at image k at
-  bytes_cut k at h = rw (lt-leb (at + k) (length image) h)
-
-  pub bytes_there : (k at : ℕ) → at + k ≤ length image → got (packed 4 at k) (at + k) ≡ bytes_at image k at
-  bytes_there k at h = rw (le-leb (at + k) (length image) h)
-
-  -- A condition and its truth, as one number, are below twice the conditions.
-  switch_all : (C at : ℕ) → All (λ n next. n < C * 2) (λ n place. Unit {0}) (switch_at image C at)
-  switch_all C at = number_all image 7 0 C at ▹ λ c at hc. number_all image 7 0 2 at ▹ λ w at hw. holds (both c w hc hw)
-    where
-      both : (c w : ℕ) → c < C → w < 2 → switch c w < C * 2
-      both c w hc hw = omega arith
-
-  pub switch_below : (C at : ℕ) {r : Read} {n : Number} → reading r ≡ switch_at image C at → r ≡ Got n → n.value < C * 2
-  switch_below C at e g = of_got (rw (← (sym (ap reading g) ∙ e)) at (switch_all C at))
+use Rattle.image.specs.Shapes.{word1, switched, last_at, truth_of, one_at, two_at, range_at, switch_at, if_at, on_at}
+use Rattle.reader.specs.Meant.{Reads}
+use Rattle.image.specs.declared.head.Head.{Head}
 
 -- ## Which kind has which shape
 
@@ -71,39 +52,12 @@ module _ (image : List ℕ) (T C N own : ℕ) where
   pub word_of : (at : ℕ) → (bounded image 6 0 19 at then operands_at) ≡ word_at image T C N own at
   word_of at = sym (then_assoc (bounded image 6 0 19 at) (λ tag at. get_or (kinds image T C N own) tag (fault 6) at) keep)
 
-  -- Empty; Byte; Range; Any; Text.
-  pub empty_word : (tag at : ℕ) → tag < 1 → got (packed tag 0 0) at ≡ operands_at tag at
-  empty_word tag at h = between (λ n. got (packed n 0 0) at ≡ operands_at n at) 0 1 tag (refl, tt) (omega arith) h
-
-  pub byte_word : (tag at : ℕ) → 1 ≤ tag → tag < 2 → one_at image tag 256 at ≡ operands_at tag at
-  byte_word tag at = between (λ n. one_at image n 256 at ≡ operands_at n at) 1 1 tag (one_kept (bounded image 7 0 256 at) Byte, tt)
-
+  -- Range.
   pub range_word : (tag at : ℕ) → 2 ≤ tag → tag < 3 → range_at image at ≡ operands_at tag at
   range_word tag at =
       between (λ n. range_at image at ≡ operands_at n at) 2 1 tag (two_kept image 7 0 256 at (λ lo. bounded image 7 lo 256) Range, tt)
 
-  pub any_word : (tag at : ℕ) → 3 ≤ tag → tag < 4 → got (packed tag 0 0) at ≡ operands_at tag at
-  any_word tag at = between (λ n. got (packed n 0 0) at ≡ operands_at n at) 3 1 tag (refl, tt)
-
-  text_kept : (k at : ℕ) (t : Bool) → leb (at + k) (length image) ≡ t
-      → pick t (got (packed 4 at k) (at + k)) (fault 2 (length image))
-      ≡ ((pick t (got (take k (drop at image)) (at + k)) (fault 2 (length image)) then λ bytes at. got (Text bytes) at) then keep)
-  text_kept k at true e =
-      let long : length (take k (drop at image))
-      ≡ k = length-take-le k (drop at image) (rw (length-drop at image) (omega (arith, leb-true (at + k) (length image) e))) in
-      let back : at + k - k ≡ at = omega arith in
-      rw (long, back)
-  text_kept k at false e = refl
-
-  pub text_word : (tag at : ℕ) → 4 ≤ tag → tag < 5 → text_at image at ≡ operands_at tag at
-  text_word tag at = between (λ n. text_at image at ≡ operands_at n at) 4 1 tag (
-    then_ext (bytes_at image) (λ k at. (raw image k at then λ bytes at. got (Text bytes) at) then keep) (number_all image 7 1 65 at)
-        (λ k at h. text_kept k at (leb (at + k) (length image)) refl)
-        ∙ sym (then_assoc (bounded image 7 1 65 at) (λ k at. raw image k at then λ bytes at. got (Text bytes) at) keep),
-    tt,
-  )
-
-  -- Sequence, Choice; Star, Not; Call.
+  -- Sequence, Choice; Star, Not.
   pub pair_word : (tag at : ℕ) → 5 ≤ tag → tag < 7 → two_at image tag own own at ≡ operands_at tag at
   pair_word tag at = between (λ n. two_at image n own own at ≡ operands_at n at) 5 2 tag
       (two_kept image 7 0 own at (λ a. bounded image 7 0 own) Sequence, (two_kept image 7 0 own at (λ a. bounded image 7 0 own) Choice, tt))
@@ -111,9 +65,6 @@ module _ (image : List ℕ) (T C N own : ℕ) where
   pub child_word : (tag at : ℕ) → 7 ≤ tag → tag < 9 → one_at image tag own at ≡ operands_at tag at
   child_word tag at = between (λ n. one_at image n own at ≡ operands_at n at) 7 2 tag
       (one_kept (bounded image 7 0 own at) Star, (one_kept (bounded image 7 0 own at) Not, tt))
-
-  pub call_word : (tag at : ℕ) → 9 ≤ tag → tag < 10 → one_at image tag N at ≡ operands_at tag at
-  call_word tag at = between (λ n. one_at image n N at ≡ operands_at n at) 9 1 tag (one_kept (bounded image 7 0 N at) Call, tt)
 
   -- Def, Match, Is, Isa, Exists; Block, Local.
   pub table_word : (tag at : ℕ) → 10 ≤ tag → tag < 15 → one_at image tag T at ≡ operands_at tag at
@@ -152,3 +103,20 @@ module _ (image : List ℕ) (T C N own : ℕ) where
         ∙ one_kept (bounded image 7 0 own at) (λ a. On c (eqb w 1) a)),
     tt,
   )
+
+-- After a tag its operands are read, and the two together are the node.
+pub tagged :
+    (h : Head) (own tag : ℕ) {before middle after : Reader} {r : Result ℕ Refusal} {p : ℕ → Reading ℕ}
+    → Reads (bounded before.image.now 6 0 19) before middle (Ok tag)
+    → Reads p middle after r
+    → p middle.at ≡ operands_at middle.image.now h.tables h.conditions h.nodes own tag middle.at
+    → Reads (word_at before.image.now h.tables h.conditions h.nodes own) before after r
+tagged h own tag {before} {middle} t o q = record {
+  result =
+      o.result
+      ∙ q
+      ∙ ap (λ i. operands_at i.now h.tables h.conditions h.nodes own tag middle.at) t.image
+      ∙ onward (operands_at before.image.now h.tables h.conditions h.nodes own) t.result
+      ∙ word_of before.image.now h.tables h.conditions h.nodes own before.at;
+  image = o.image ∙ t.image;
+}

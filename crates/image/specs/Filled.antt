@@ -1,16 +1,17 @@
 -- What the walk over an image puts down: an array of 524 numbers, a word for each node at the node's number, and each table's
 -- pattern at 512 plus the table's number. The four numbers behind those are left as they are: a caller keeps its limits and
 -- the image's length there.
-use Rattle.std.specs.Prelude.{ℕ, zero, suc, ◌+◌, ◌<◌, ◌≡◌, List, ltb, length, get_or, set}
+use Rattle.std.specs.Prelude.{ℕ, zero, suc, ◌+◌, ◌<◌, ◌≡◌, List, ltb, length, get_or, set, Result}
 use Rattle.grammar.specs.Grammar.{Grammar, tables, size, node, pattern}
-use Rattle.reader.specs.declared.number.Read.{Read}
-use Rattle.image.specs.declared.walk.Loaded.{Loaded}
+use Rattle.reader.specs.declared.reader.Reader.{Reader}
+use Rattle.reader.specs.declared.refusal.Refusal.{Refusal}
+use Rattle.image.specs.declared.head.Head as code
 use Rattle.format.specs.Reading.{Reading, got, fault, pick, ◌then◌}
 use Rattle.format.specs.Image.{times, Head, bounded, head_at, patterns_at, good, read_image}
 use Rattle.image.specs.Word.{word_at}
 use Rattle.image.specs.Node.{node_of, expr_of, InImage}
-use Rattle.reader.specs.Meant.{reading}
-use Rattle.image.specs.Meant.{answered}
+use Rattle.reader.specs.Meant.{told}
+use Rattle.image.specs.Meant.{answered, loaded}
 
 -- What was read goes on to more; a fault leaves what there is.
 abbrev pub unless : {A : Type 0} → Reading A → List ℕ → (A → ℕ → List ℕ) → List ℕ
@@ -22,14 +23,15 @@ abbrev pub filling : (p : ℕ → ℕ → Reading ℕ) (to i k at : ℕ) → Lis
 filling p to i zero at l = l
 filling p to i (suc k) at l = unless (p i at) l (λ w next. filling p to (suc i) k next (set l (to + i) w))
 
--- What is left of readings whose values were put down: how many they were, and the place after them.
-abbrev pub counted : {A : Type 0} → ℕ → List A → ℕ → Reading ℕ
-counted k xs next = got k next
+-- What is left of readings whose values were put down: the place after them.
+abbrev pub put_down : {A : Type 0} → List A → ℕ → Reading (Unit {0})
+put_down xs next = got tt next
 
--- What a loop that puts readings down gives, and what the array then holds.
-pub record Fills (p : ℕ → ℕ → Reading ℕ) (to k at : ℕ) (before after : List ℕ) (r : Read) : Type 0 where
-  pub result : reading r ≡ (times p 0 k at then counted k)
-  pub array : after ≡ filling p to 0 k at before
+-- What a loop that puts readings down gives, and what the array then holds. The reader then stands behind them, over the same image.
+pub record Fills (p : ℕ → ℕ → Reading ℕ) (to k : ℕ) (from after : Reader) (before now : List ℕ) (r : Result (Unit {0}) Refusal) : Type 0 where
+  pub result : told r after.at ≡ (times p 0 k from.at then put_down)
+  pub image : after.image ≡ from.image
+  pub array : now ≡ filling p to 0 k from.at before
 
 module _ (image : List ℕ) where
   abbrev pub with_patterns : Head → ℕ → List ℕ → List ℕ
@@ -48,8 +50,8 @@ module _ (image : List ℕ) where
 
 -- The walk's promise: what is said of the image; what the array holds, after a refusal too; and, for a good image, at each
 -- node's number the node of the grammar, whose bytes lie in the image if it is a Text, and at each table's place its pattern.
-pub record Loads (image before after : List ℕ) (r : Loaded) : Type 0 where
-  pub answer : r ≡ answered (read_image image)
+pub record Loads (image before after : List ℕ) (r : Result code.Head Refusal) : Type 0 where
+  pub answer : loaded r ≡ answered (read_image image)
   pub array : after ≡ filled image before
   pub nodes : (g : Grammar) → read_image image ≡ good g → (n : ℕ) → n < size g → expr_of image (node_of (get_or after n 0)) ≡ node g n
   pub texts : (g : Grammar) → read_image image ≡ good g → (n : ℕ) → n < size g → InImage image (node_of (get_or after n 0))

@@ -7,19 +7,19 @@ use native.Mathlib.Omega.{arith}
 use Rattle.format.specs.Reading.{Reading, got, fault, ◌then◌}
 use Rattle.format.specs.ReadingLaws.{onward, then_assoc}
 use Rattle.format.specs.Image.{times}
-use Rattle.image.specs.Filled.{unless, filling, counted}
+use Rattle.image.specs.Filled.{unless, filling, put_down}
 
 -- ## A loop that puts readings down
 
 module _ (p : ℕ → ℕ → Reading ℕ) (to N : ℕ) where
   -- What one reading makes of the rest.
-  rest : (i k : ℕ) → ℕ → ℕ → Reading ℕ
-  rest i k x at = (times p (suc i) k at then λ xs at. got (x ∷ xs) at) then counted N
+  rest : (i k : ℕ) → ℕ → ℕ → Reading (Unit {0})
+  rest i k x at = (times p (suc i) k at then λ xs at. got (x ∷ xs) at) then put_down
 
-  one_read : (i k at : ℕ) {r : Reading ℕ} → r ≡ p i at → (r then rest i k) ≡ (times p i (suc k) at then counted N)
+  one_read : (i k at : ℕ) {r : Reading ℕ} → r ≡ p i at → (r then rest i k) ≡ (times p i (suc k) at then put_down)
   unfolding rest
   one_read i k at {r} e =
-      onward (rest i k) e ∙ sym (then_assoc (p i at) (λ x at. times p (suc i) k at then λ xs at. got (x ∷ xs) at) (counted N))
+      onward (rest i k) e ∙ sym (then_assoc (p i at) (λ x at. times p (suc i) k at then λ xs at. got (x ∷ xs) at) put_down)
 
   one_down :
       (i k at : ℕ) (l : List ℕ) {r : Reading ℕ} → r ≡ p i at
@@ -30,7 +30,7 @@ module _ (p : ℕ → ℕ → Reading ℕ) (to N : ℕ) where
   -- gives, and what is still to be put down gives the array that the whole gives.
   pub record Filling (start : ℕ) (before now : List ℕ) (i at : ℕ) : Type 0 where
     pub on : i ≤ N
-    pub result : (times p i (N - i) at then counted N) ≡ (times p 0 N start then counted N)
+    pub result : (times p i (N - i) at then put_down) ≡ (times p 0 N start then put_down)
     pub array : filling p to i (N - i) at now ≡ filling p to 0 N start before
 
   pub filling_starts : (start : ℕ) (l : List ℕ) → Filling start l l 0 start
@@ -44,7 +44,7 @@ module _ (p : ℕ → ℕ → Reading ℕ) (to N : ℕ) where
         let left : N - i ≡ suc (N - suc i) = omega arith in
         record {
           on = omega arith;
-          result = rw (add-one i) (sym (then_assoc (times p (suc i) (N - suc i) next) (λ xs at. got (w ∷ xs) at) (counted N))
+          result = rw (add-one i) (sym (then_assoc (times p (suc i) (N - suc i) next) (λ xs at. got (w ∷ xs) at) put_down)
               ∙ one_read i (N - suc i) at e ∙ rw left at f.result);
           array = rw (add-one i) (one_down i (N - suc i) at now e ∙ rw left at f.array);
         }
@@ -52,14 +52,14 @@ module _ (p : ℕ → ℕ → Reading ℕ) (to N : ℕ) where
     -- One cannot be read.
     pub filling_stops :
         i < N → {n place : ℕ} → fault n place ≡ p i at
-        → (fault n place ≡ (times p 0 N start then counted N)) × (now ≡ filling p to 0 N start before)
+        → (fault n place ≡ (times p 0 N start then put_down)) × (now ≡ filling p to 0 N start before)
     unfolding rest
     filling_stops h e =
         let left : N - i ≡ suc (N - suc i) = omega arith in
         (one_read i (N - suc i) at e ∙ rw left at f.result, one_down i (N - suc i) at now e ∙ rw left at f.array)
 
     -- All are read.
-    pub filling_ends : N ≤ i → (got N at ≡ (times p 0 N start then counted N)) × (now ≡ filling p to 0 N start before)
+    pub filling_ends : N ≤ i → (got tt at ≡ (times p 0 N start then put_down)) × (now ≡ filling p to 0 N start before)
     filling_ends h =
         let left : N - i ≡ 0 = omega arith in
         (rw left at f.result, rw left at f.array)

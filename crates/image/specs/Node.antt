@@ -1,5 +1,5 @@
 -- The node that a word keeps, and the expression that a node stands for.
-use Rattle.std.specs.Prelude.{ℕ, ◌+◌, ◌/◌, ◌%◌, ◌≤◌, ◌≡◌, true, false, List, [], ◌∷◌, eqb, length, take, drop, get_or}
+use Rattle.std.specs.Prelude.{ℕ, ◌+◌, ◌/◌, ◌%◌, ◌≤◌, ◌≡◌, Option, Some, None, List, [], ◌∷◌, eqb, length, take, drop, get_or}
 use Rattle.grammar.specs.Expr as e
 use Rattle.image.specs.declared.node.Node.{Node}
 use Rattle.image.specs.declared.node.Span.{Span}
@@ -41,31 +41,27 @@ expr_of image (Local t a) = e.Local t a
 expr_of image (If c truth) = e.If c truth
 expr_of image (On c truth a) = e.On c truth a
 
--- None is asked for.
-abbrev nothing : Span
-nothing = record { one = false; lo = 0; hi = 0 }
-
 -- The kinds that ask for a single byte, and the bytes that they take.
-abbrev pub span_of : Node → Span
-span_of (Byte b) = record { one = true; lo = b; hi = b }
-span_of (Range lo hi) = record { one = true; lo = lo; hi = hi }
-span_of Any = record { one = true; lo = 0; hi = 255 }
-span_of Empty = nothing
-span_of (Text place count) = nothing
-span_of (Sequence a b) = nothing
-span_of (Choice a b) = nothing
-span_of (Star a) = nothing
-span_of (Not a) = nothing
-span_of (Call a) = nothing
-span_of (Def t) = nothing
-span_of (Match t) = nothing
-span_of (Is t) = nothing
-span_of (Isa t) = nothing
-span_of (Exists t) = nothing
-span_of (Block t a) = nothing
-span_of (Local t a) = nothing
-span_of (If c truth) = nothing
-span_of (On c truth a) = nothing
+abbrev pub span_of : Node → Option Span
+span_of (Byte b) = Some (record { lo = b; hi = b })
+span_of (Range lo hi) = Some (record { lo = lo; hi = hi })
+span_of Any = Some (record { lo = 0; hi = 255 })
+span_of Empty = None
+span_of (Text place count) = None
+span_of (Sequence a b) = None
+span_of (Choice a b) = None
+span_of (Star a) = None
+span_of (Not a) = None
+span_of (Call a) = None
+span_of (Def t) = None
+span_of (Match t) = None
+span_of (Is t) = None
+span_of (Isa t) = None
+span_of (Exists t) = None
+span_of (Block t a) = None
+span_of (Local t a) = None
+span_of (If c truth) = None
+span_of (On c truth a) = None
 
 -- The bytes of a Text lie in the image.
 abbrev pub InImage : (image : List ℕ) → Node → Type 0

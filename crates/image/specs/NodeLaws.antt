@@ -1,36 +1,14 @@
 -- Laws of words and nodes: what a word was made of is what it is taken apart into.
-use Rattle.std.specs.Prelude.{ℕ, zero, suc, ◌+◌, ◌-◌, ◌*◌, ◌/◌, ◌%◌, ◌≤◌, ◌<◌, ◌≡◌, refl, Bool, true, false, List, eqb, take, drop, length}
+use Rattle.std.specs.Prelude.{ℕ, ◌+◌, ◌-◌, ◌*◌, ◌/◌, ◌%◌, ◌≤◌, ◌<◌, ◌≡◌, refl, Bool, true, false, List, eqb, take, drop, length, zero, suc}
 use Rattle.std.proofs.Math.Path.{ap}
 use Rattle.std.proofs.Common.{ap₂, sym, subst, ◌∙◌, arith, div-add-mod', mod-lt, mod-eq_of_lt}
-use Rattle.std.proofs.Math.ListN.{get_or-eq_default}
 use Rattle.grammar.specs.Expr as e
 use Rattle.grammar.specs.Sound.{Fits}
 use Rattle.image.specs.declared.node.Node.TheVariants.{Text, On}
 use Rattle.format.specs.Written.{bit}
 use Rattle.image.specs.Word.{packed, switch, kept}
-use Rattle.image.specs.Node.{listed, kind_of, node_of, expr_of, InImage}
-
--- ## By the tag of a word
-
-pub kind_at : (word tag : ℕ) → word % 32 ≡ tag → kind_of tag (word / 32 % 32768) (word / 1048576) ≡ node_of word
-unfolding node_of
-kind_at word tag h = ap (λ t. kind_of t (word / 32 % 32768) (word / 1048576)) (sym h)
-
--- A number that is none of those below k.
-abbrev pub NoneBelow : ℕ → ℕ → Type 0
-NoneBelow n zero = Unit {0}
-NoneBelow n (suc k) = NoneBelow n k × (n ≡ k → ⊥)
-
-at_least : (n k : ℕ) → NoneBelow n k → k ≤ n
-at_least n zero h = omega arith
-at_least n (suc k) h = let l : k ≤ n = at_least n k h.0 in let m : n ≡ k → ⊥ = h.1 in omega arith
-
-pub kind_last :
-    (word : ℕ) → NoneBelow (word % 32) 18 → On (word / 32 % 32768 / 2) (eqb (word / 32 % 32768 % 2) 1) (word / 1048576) ≡ node_of word
-unfolding node_of
-kind_last word h =
-    let a = word / 32 % 32768 in let b = word / 1048576 in
-    sym (get_or-eq_default (listed a b) (On (a / 2) (eqb (a % 2) 1) b) {n = word % 32} (at_least (word % 32) 18 h))
+use Rattle.image.specs.Node.{kind_of, node_of, expr_of, InImage, listed}
+use Rattle.std.proofs.Math.ListN.{get_or-eq_default}
 
 -- ## A word and the expression that it was made of
 
@@ -143,3 +121,25 @@ module _ (image : List ℕ) (T C N own : ℕ) (small : (T ≤ 512) × (C ≤ 512
       let here : next - length bytes ≡ place = cc in
       let many : length bytes ≡ count = cc in
       omega (arith, ends.long, ends.inside)
+
+-- ## By the tag of a word
+
+pub kind_at : (word tag : ℕ) → word % 32 ≡ tag → kind_of tag (word / 32 % 32768) (word / 1048576) ≡ node_of word
+unfolding node_of
+kind_at word tag h = ap (λ t. kind_of t (word / 32 % 32768) (word / 1048576)) (sym h)
+
+-- A number that is none of those below k.
+abbrev pub NoneBelow : ℕ → ℕ → Type 0
+NoneBelow n zero = Unit {0}
+NoneBelow n (suc k) = NoneBelow n k × (n ≡ k → ⊥)
+
+at_least : (n k : ℕ) → NoneBelow n k → k ≤ n
+at_least n zero h = omega arith
+at_least n (suc k) h = let l : k ≤ n = at_least n k h.0 in let m : n ≡ k → ⊥ = h.1 in omega arith
+
+pub kind_last :
+    (word : ℕ) → NoneBelow (word % 32) 18 → On (word / 32 % 32768 / 2) (eqb (word / 32 % 32768 % 2) 1) (word / 1048576) ≡ node_of word
+unfolding node_of
+kind_last word h =
+    let a = word / 32 % 32768 in let b = word / 1048576 in
+    sym (get_or-eq_default (listed a b) (On (a / 2) (eqb (a % 2) 1) b) {n = word % 32} (at_least (word % 32) 18 h))

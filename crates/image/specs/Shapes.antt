@@ -1,7 +1,7 @@
--- The operands of a node as a word, by their shape: what the functions that read them promise.
+-- The operands of a node as a word, by their shape, and the numbers that an image begins with: what the functions that read them promise.
 use Rattle.std.specs.Prelude.{ℕ, ◌+◌, List, leb, length}
 use Rattle.format.specs.Reading.{Reading, got, fault, pick, ◌then◌}
-use Rattle.format.specs.Image.{bounded}
+use Rattle.format.specs.Image.{Head, within, below, bounded}
 use Rattle.image.specs.Word.{packed, switch}
 
 -- A word with its last operand in it.
@@ -51,3 +51,13 @@ module _ (image : List ℕ) where
 
   abbrev pub on_at : (conditions own at : ℕ) → Reading ℕ
   on_at conditions own at = switch_at conditions at then last_at 18 own
+
+  -- The numbers that an image begins with, from a place on; those of the image itself are from 0 on.
+  abbrev pub head_from : ℕ → Reading Head
+  head_from at =
+      within image 4 1 1 at then λ edition at.
+      within image 5 0 8 at then λ tables at.
+      within image 5 0 8 at then λ conditions at.
+      within image 5 1 512 at then λ nodes at.
+      below image nodes at then λ start at.
+      got (record { tables = tables; conditions = conditions; nodes = nodes; start = start }) at

@@ -1,12 +1,13 @@
 -- Two outcomes that a promise permits are equal.
-use Rattle.std.specs.Prelude.{ℕ, ◌≡◌, List}
-use Rattle.std.proofs.Common.{sym, ◌∙◌, arith}
-use Rattle.reader.specs.declared.number.Read.{Read}
-use Rattle.image.specs.declared.walk.Head as code
-use Rattle.image.specs.declared.walk.Header.{Header}
-use Rattle.image.specs.declared.walk.Header.TheVariants.{Found, Refused as NoHead}
-use Rattle.image.specs.declared.walk.Loaded.{Loaded}
-use Rattle.image.specs.declared.walk.Verdict.{Verdict}
+use mathlib.Core.HLevel.{is_prop→PathP}
+use Rattle.std.specs.Prelude.{ℕ, ◌≤◌, ◌<◌, ◌≡◌, List, Option, Result, Ok, Err}
+use Rattle.std.proofs.Math.Bridge.{le_prop}
+use Rattle.std.proofs.Common.{ap, sym, ◌∙◌, arith}
+use Rattle.reader.specs.declared.reader.Reader.{Reader}
+use Rattle.reader.specs.declared.refusal.Refusal.{Refusal}
+use Rattle.reader.specs.Meant.{number_of}
+use Rattle.reader.specs.Unique.{one_refusal, one_told}
+use Rattle.image.specs.declared.head.Head as code
 use Rattle.format.specs.Reading.{Reading}
 use Rattle.format.specs.Image.{Head, read_image}
 use Rattle.image.specs.declared.node.Node.{Node}
@@ -14,57 +15,79 @@ use Rattle.image.specs.declared.node.Span.{Span}
 use Rattle.image.specs.Word.{packed}
 use Rattle.image.specs.Node.{node_of, span_of}
 use Rattle.image.specs.Filled.{Fills, Loads}
-use Rattle.reader.specs.Unique.{one_reading}
-use Rattle.image.specs.Meant.{header, verdict}
+use Rattle.image.specs.Meant.{heading, headed, loaded, checked, verdict}
 
--- `bounded`, `word_at` and every function that reads operands promise `reading r ≡ x`: `one_reading` of `reader`.
+-- `bounded`, `word_at` and every function that reads operands promise `told r at ≡ x`, in `Reads`: `one_told` of `reader`.
 
--- `head_of`: it promises `header r ≡ x`.
-pub one_header : (r s : Header) {x : Reading Head} → header r ≡ x → header s ≡ x → r ≡ s
-one_header r s e f = same r s (e ∙ sym f)
+-- A head is its four numbers.
+pub one_heading : (h k : code.Head) → heading h ≡ heading k → h ≡ k
+one_heading h k e =
+    let tables : h.tables ≡ k.tables = ap (λ h. h.tables) e in
+    let conditions : h.conditions ≡ k.conditions = ap (λ h. h.conditions) e in
+    let nodes : h.nodes ≡ k.nodes = ap (λ h. h.nodes) e in
+    let start : h.start ≡ k.start = ap (λ h. h.start) e in
+    λ i. record {
+      tables = tables i;
+      conditions = conditions i;
+      nodes = nodes i;
+      start = start i;
+      few_tables = is_prop→PathP (λ j. tables j ≤ 8) (λ j. le_prop) h.few_tables k.few_tables i;
+      few_conditions = is_prop→PathP (λ j. conditions j ≤ 8) (λ j. le_prop) h.few_conditions k.few_conditions i;
+      few_nodes = is_prop→PathP (λ j. nodes j ≤ 512) (λ j. le_prop) h.few_nodes k.few_nodes i;
+      starts = is_prop→PathP (λ j. start j < nodes j) (λ j. le_prop) h.starts k.starts i;
+    }
+
+-- `head_of`: it promises `headed r at ≡ x`.
+pub one_header : (r s : Result code.Head Refusal) (at at' : ℕ) {x : Reading Head} → headed r at ≡ x → headed s at' ≡ x → r ≡ s
+one_header r s at at' e f = same r s (e ∙ sym f)
   where
-    said : code.Head → Head
-    said h = record { tables = h.tables; conditions = h.conditions; nodes = h.nodes; start = h.start }
-
-    same : (r s : Header) → header r ≡ header s → r ≡ s
-    same (Found h) (Found k) e =
-        let head : said h ≡ said k = cc in let next : h.next ≡ k.next = cc in
-        λ i. Found (record {
-          tables =
-              (head i).tables;
-          conditions = (head i).conditions;
-          nodes = (head i).nodes;
-          start = (head i).start;
-          next = next i;
-        })
-    same (Found h) (NoHead g) e = let z : ◌≡◌ {A = ℕ} 0 1 = cc in absurd (omega arith)
-    same (NoHead f) (Found k) e = let z : ◌≡◌ {A = ℕ} 0 1 = cc in absurd (omega arith)
-    same (NoHead f) (NoHead g) e =
-        let number : f.number ≡ g.number = cc in let place : f.place ≡ g.place = cc in
-        λ i. NoHead (record { number = number i; place = place i })
+    same : (r s : Result code.Head Refusal) → headed r at ≡ headed s at' → r ≡ s
+    same (Ok h) (Ok k) e = let head : heading h ≡ heading k = cc in ap Ok (one_heading h k head)
+    same (Ok h) (Err g) e = let z : ◌≡◌ {A = ℕ} 0 1 = cc in absurd (omega arith)
+    same (Err f) (Ok k) e = let z : ◌≡◌ {A = ℕ} 0 1 = cc in absurd (omega arith)
+    same (Err f) (Err g) e =
+        let number : number_of f.fault ≡ number_of g.fault = cc in let place : f.place ≡ g.place = cc in
+        ap Err (one_refusal f g number place)
 
 -- `fill_patterns` and `fill_nodes`: what is read and what the array holds.
 pub one_filling :
-    {p : ℕ → ℕ → Reading ℕ} {to k at : ℕ} {before after after' : List ℕ} {r r' : Read} → Fills p to k at before after r
-    → Fills p to k at before after' r' → (r ≡ r') × (after ≡ after')
-one_filling {r = r} {r' = r'} f g = (one_reading r r' f.result g.result, f.array ∙ sym g.array)
+    {p : ℕ → ℕ → Reading ℕ} {to k : ℕ} {from end end' : Reader} {before after after' : List ℕ} {r r' : Result (Unit {0}) Refusal}
+    → Fills p to k from end before after r → Fills p to k from end' before after' r' → (r ≡ r') × (after ≡ after')
+one_filling {end = end} {end' = end'} {r = r} {r' = r'} f g = (one_told r r' end.at end'.at f.result g.result, f.array ∙ sym g.array)
 
 -- `load`: what is said and what the array holds, after a refusal too.
 pub one_loading :
-    {image before after after' : List ℕ} {r r' : Loaded} → Loads image before after r → Loads image before after' r'
+    {image before after after' : List ℕ} {r r' : Result code.Head Refusal} → Loads image before after r → Loads image before after' r'
     → (r ≡ r') × (after ≡ after')
-one_loading f g = (f.answer ∙ sym g.answer, f.array ∙ sym g.array)
+one_loading {r = r} {r' = r'} f g = (same r r' (f.answer ∙ sym g.answer), f.array ∙ sym g.array)
+  where
+    same : (r s : Result code.Head Refusal) → loaded r ≡ loaded s → r ≡ s
+    same (Ok h) (Ok k) e = let head : heading h ≡ heading k = cc in ap Ok (one_heading h k head)
+    same (Ok h) (Err g) e = let z : ◌≡◌ {A = ℕ} 0 1 = cc in absurd (omega arith)
+    same (Err f) (Ok k) e = let z : ◌≡◌ {A = ℕ} 0 1 = cc in absurd (omega arith)
+    same (Err f) (Err g) e =
+        let number : number_of f.fault ≡ number_of g.fault = cc in let place : f.place ≡ g.place = cc in
+        ap Err (one_refusal f g number place)
 
 -- `check`
-pub one_verdict : (image : List ℕ) (r r' : Verdict) → r ≡ verdict (read_image image) → r' ≡ verdict (read_image image) → r ≡ r'
-one_verdict image r r' e f = e ∙ sym f
+pub one_verdict :
+    (image : List ℕ) (r r' : Result (Unit {0}) Refusal) → checked r ≡ verdict (read_image image) → checked r' ≡ verdict (read_image image) → r ≡ r'
+one_verdict image r r' e f = same r r' (e ∙ sym f)
+  where
+    same : (r s : Result (Unit {0}) Refusal) → checked r ≡ checked s → r ≡ s
+    same (Ok _) (Ok _) e = λ i. Ok tt
+    same (Ok _) (Err g) e = let z : ◌≡◌ {A = ℕ} 0 1 = cc in absurd (omega arith)
+    same (Err f) (Ok _) e = let z : ◌≡◌ {A = ℕ} 0 1 = cc in absurd (omega arith)
+    same (Err f) (Err g) e =
+        let number : number_of f.fault ≡ number_of g.fault = cc in let place : f.place ≡ g.place = cc in
+        ap Err (one_refusal f g number place)
 
 -- `node_of`
 pub one_node : (word : ℕ) (r r' : Node) → r ≡ node_of word → r' ≡ node_of word → r ≡ r'
 one_node word r r' e f = e ∙ sym f
 
 -- `span_of`
-pub one_span : (k : Node) (r r' : Span) → r ≡ span_of k → r' ≡ span_of k → r ≡ r'
+pub one_span : (k : Node) (r r' : Option Span) → r ≡ span_of k → r' ≡ span_of k → r ≡ r'
 one_span k r r' e f = e ∙ sym f
 
 -- `word`

@@ -28,7 +28,8 @@ pub enum Node {
     On(u32, bool, u32),
 }
 
-// The node that a word keeps.
+// The node that a word keeps. No `From`: a number is a word only where the walk put it down, and the tags are 01's.
+#[tactic(auto, unfolding(crate::specs::Node::node_of))]
 pub fn node_of(word: u32) -> Node
     ensures { result ≡ node_of word }
 {
@@ -58,39 +59,26 @@ pub fn node_of(word: u32) -> Node
     }
 }
 
-// Whether a single byte is asked for, and the least and the greatest that is taken; 0 and 0 where none is asked for.
+// The least and the greatest byte that is taken where a single byte is asked for.
 #[derive(Clone, Copy)]
 pub struct Span {
-    pub one: bool,
     pub lo: u8,
     pub hi: u8,
 }
 
 // The single byte that a node asks for.
-pub fn span_of(node: Node) -> Span
+pub fn span_of(node: Node) -> Option<Span>
     ensures { result ≡ span_of node }
 {
     match node {
-        Node::Byte(b) => Span {
-            one: true,
-            lo: b,
-            hi: b,
-        },
-        Node::Range(lo, hi) => Span { one: true, lo, hi },
-        Node::Any => Span {
-            one: true,
-            lo: 0,
-            hi: 255,
-        },
-        _ => Span {
-            one: false,
-            lo: 0,
-            hi: 0,
-        },
+        Node::Byte(b) => Some(Span { lo: b, hi: b }),
+        Node::Range(lo, hi) => Some(Span { lo, hi }),
+        Node::Any => Some(Span { lo: 0, hi: 255 }),
+        _ => None,
     }
 }
 
-// A tag and two operands in one word.
+// A tag and two operands in one word. The tag is 01's number.
 pub(crate) fn word(tag: u32, a: u32, b: u32) -> u32
     requires { (tag < 32) × (a < 32768) × (b < 4096) }
     ensures { result ≡ packed tag a b }

@@ -1,30 +1,20 @@
 // A number of an image within its range. Every number that this crate reads is handed out by a reader, and judged here.
-ghost use Rattle.std.specs.Prelude.{◌≡◌};
+ghost use Rattle.std.specs.Prelude.{◌<◌, ◌≤◌, IfOk};
 ghost use Rattle.format.specs.Image.{bounded};
-ghost use Rattle.reader.specs.Meant.{reading};
+ghost use Rattle.reader.specs.Meant.{number_of, Reads};
 
-use reader::number::{Read, Refusal};
-use reader::number_from;
+use reader::{Fault, Reader, Refusal};
+use std::ops::Range;
 
-// The number at a place if it is at least `low` and below `stop`; else the refusal `why`, at that place.
-pub fn bounded(image: &[u8], at: usize, low: u32, stop: u32, why: u32) -> Read
-    ensures { reading result ≡ bounded image.now why low stop at }
+// The next number if it is in a range; else the fault `why`, at that number's place.
+pub fn bounded(reader: &mut Reader, range: Range<u32>, why: Fault) -> Result<u32, Refusal>
+    ensures reads { Reads (bounded reader.old.image.now (number_of why) range.start range.end) reader.old reader.new result }
+    ensures within { IfOk result (λ n. (range.start ≤ n) × (n < range.end)) }
 {
-    let r = number_from(image, at);
-    let Read::Got(n) = r else {
-        return r;
-    };
-    if n.value < low {
-        return Read::Refused(Refusal {
-            number: why,
-            place: at,
-        });
+    let place = reader.stands();
+    let n = reader.next()?;
+    if range.contains(&n) {
+        return Ok(n);
     }
-    if n.value < stop {
-        return r;
-    }
-    Read::Refused(Refusal {
-        number: why,
-        place: at,
-    })
+    Err(why.at(place))
 }

@@ -1,10 +1,6 @@
 -- Keeping a name: it stands there already, or it is put in where it belongs.
-use Prim.Native.Nat.{ℕ, ◌+◌, ◌≤◌, ◌<◌}
-use mathlib.Core.Path.{◌≡◌, refl, ap, sym, ◌∙◌}
-use mathlib.Core.Bool.{true, false, not}
-use mathlib.Core.List.{List}
-use native.Mathlib.Omega.{arith}
-use lib.ListN.{length}
+use Rattle.std.proofs.Common.{ℕ, ◌+◌, ◌≤◌, ◌<◌, ◌≡◌, refl, ap, sym, ◌∙◌, true, false, not, List, map, length, take, arith}
+use Rattle.std.proofs.Math.Seq.{take-length}
 use Rattle.notation.specs.Tree.{Name}
 use Rattle.notation.specs.At.{name_at}
 use Rattle.notation.specs.Compile.{place}
@@ -19,11 +15,16 @@ module _ (text at : List ℕ) (count p index : ℕ) (room : count < length at) w
   abbrev names : List Name
   names = names_at text at count
 
+  -- What stands at the front of the array.
+  seen : names_at text (take count at) (length (take count at)) ≡ names
+  seen = ap (map (name_at text)) (take-length (take count at))
+
   many : length names ≡ count
   many = names_length text at count (omega arith)
 
-  pub keeps_old : Ascending names → Stands name names index → Keeps text at count p at (record { count = count; index = index; fresh = false })
-  keeps_old a s =
+  pub keeps_old : Ascending names → Stands name (names_at text (take count at) (length (take count at))) index → Keeps text at count p at (record { count = count; index = index; fresh = false })
+  keeps_old a t =
+      let s : Stands name names index = rw seen at t in
       let e = stands_insert name names index s a in
       record {
         names = sym e;
@@ -38,9 +39,10 @@ module _ (text at : List ℕ) (count p index : ℕ) (room : count < length at) w
         long = refl;
       }
 
-  pub keeps_new : {now : List ℕ} → now ≡ put_in at count index p → Belongs name names index
+  pub keeps_new : {now : List ℕ} → now ≡ put_in at count index p → Belongs name (names_at text (take count at) (length (take count at))) index
       → Keeps text at count p now (record { count = count + 1; index = index; fresh = true })
-  keeps_new {now} e b =
+  keeps_new {now} e f =
+      let b : Belongs name names index = rw seen at f in
       let h : index ≤ count = omega (arith, b.within, many) in
       record {
         names = ap (λ l. names_at text l (count + 1)) e ∙ put_names at count index p h room text ∙ sym (belongs_insert name names index b);

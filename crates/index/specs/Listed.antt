@@ -1,26 +1,24 @@
 -- Names of a text, kept as places in an array: in byte order of the names, each name once.
-use Rattle.std.specs.Prelude.{ℕ, ◌+◌, ◌-◌, ◌≤◌, ◌<◌, ◌≡◌, true, false, not, List, [], ◌∷◌, ◌++◌, map, eqb, length, take, drop, get_or}
+use Rattle.std.specs.Prelude.{ℕ, ◌+◌, ◌-◌, ◌≤◌, ◌<◌, ◌≡◌, not, List, [], ◌∷◌, ◌++◌, map, length, take, drop, get_or, Result, Ok, Err}
+use Rattle.std.specs.declared.cmp.Ordering.{Ordering}
+use Rattle.std.specs.declared.cmp.Ordering.TheVariants.{Less, Equal, Greater}
 use Rattle.format.specs.Reading.{pick}
 use Rattle.notation.specs.Tree.{Name}
 use Rattle.notation.specs.At.{name_at}
 use Rattle.notation.specs.Naming.{member}
 use Rattle.notation.specs.Compile.{Order, lower, equal, higher, order, insert, place}
 pub use Rattle.notation.specs.OrderLaws.{Below, Ascending}
-use Rattle.index.specs.declared.list.Sought.{Sought}
 use Rattle.index.specs.declared.list.Kept.{Kept}
 
 -- The names at the first n places of an array.
 abbrev pub names_at : (text at : List ℕ) (n : ℕ) → List Name
 names_at text at n = map (name_at text) (take n at)
 
--- A name's first byte, and 0 where it has none: 0 is no byte of a name.
-abbrev pub initial : Name → ℕ
-initial [] = 0
-initial (b ∷ n) = b
-
--- The order that a number of the code stands for.
-unfoldable pub order_of : ℕ → Order
-order_of k = pick (eqb k 0) lower (pick (eqb k 1) equal higher)
+-- The order that an answer of the code stands for.
+abbrev pub order_of : Ordering → Order
+order_of Less = lower
+order_of Equal = equal
+order_of Greater = higher
 
 -- A name is higher than each of these.
 abbrev pub Above : Name → List Name → Type 0
@@ -38,12 +36,10 @@ pub record Belongs (n : Name) (ns : List Name) (i : ℕ) : Type 0 where
   pub before : Above n (take i ns)
   pub behind : Below n (drop i ns)
 
--- What a search for the name at p among the names at the first `count` places comes to.
-pub record Seeks (text at : List ℕ) (count p : ℕ) (r : Sought) : Type 0 where
-  pub within : r.index ≤ count
-  pub inside : r.here ≡ true → r.index < count
-  pub found : r.here ≡ true → Stands (name_at text p) (names_at text at count) r.index
-  pub missing : r.here ≡ false → Belongs (name_at text p) (names_at text at count) r.index
+-- What a search for a name among names comes to: where it stands, or where it belongs.
+abbrev pub Seeks : Name → List Name → Result ℕ ℕ → Type 0
+Seeks n ns (Ok i) = Stands n ns i
+Seeks n ns (Err i) = Belongs n ns i
 
 -- An array of which the first `count` numbers count, with p put among them at an index: those from the index on have moved one up, and what
 -- comes behind them is as it was, but for the one that made room.

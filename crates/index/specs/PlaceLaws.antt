@@ -1,31 +1,14 @@
 -- Names as places in an array: how many there are, which is where, and what putting one more place in comes to.
-use Rattle.std.specs.Prelude.{ℕ, zero, suc, ◌+◌, ◌-◌, ◌≤◌, ◌<◌, ◌≡◌, refl, List, [], ◌∷◌, ◌++◌, map, length, drop, get_or}
+use Rattle.std.specs.Prelude.{ℕ, ◌+◌, ◌-◌, ◌≤◌, ◌<◌, ◌≡◌, List, [], ◌∷◌, ◌++◌, map, length, drop, get_or}
 use Rattle.std.proofs.Math.Path.{ap, sym}
 use Rattle.std.proofs.Common.{◌∙◌, append_assoc, take-take, get_or-take}
-use Rattle.std.proofs.lemmas.List.{map-append, length-map}
+use Rattle.std.proofs.lemmas.List.{map-append, length-map, get_or-map, drop-map}
+use Rattle.std.specs.List.{take-map}
 use native.Mathlib.Omega.{arith}
 use Rattle.std.proofs.Math.ListN.{take, length-append, length-drop}
 use Rattle.std.proofs.Math.Seq.{length-take-le, take_at, drop_at, take-add}
 use Rattle.notation.specs.At.{name_at}
 use Rattle.index.specs.Listed.{names_at, put_in}
-
--- ## Through a function
-
-module _ {A B : Type 0} (f : A → B) where
-  map_take : (i : ℕ) (l : List A) → map f (take i l) ≡ take i (map f l)
-  map_take zero l = refl
-  map_take (suc i) [] = refl
-  map_take (suc i) (x ∷ l) = ap (λ r. f x ∷ r) (map_take i l)
-
-  map_drop : (i : ℕ) (l : List A) → map f (drop i l) ≡ drop i (map f l)
-  map_drop zero l = refl
-  map_drop (suc i) [] = refl
-  map_drop (suc i) (x ∷ l) = map_drop i l
-
-  map_at : (l : List A) (i : ℕ) (d : A) (e : B) → i < length l → get_or (map f l) i e ≡ f (get_or l i d)
-  map_at [] i d e h = absurd (omega arith)
-  map_at (x ∷ l) zero d e h = refl
-  map_at (x ∷ l) (suc i) d e h = map_at l i d e (omega arith)
 
 -- ## The names
 
@@ -35,7 +18,7 @@ module _ (text at : List ℕ) (n : ℕ) (fits : n ≤ length at) where
 
   pub names_at_lem : (i : ℕ) → i < n → get_or (names_at text at n) i [] ≡ name_at text (get_or at i 0)
   names_at_lem i h =
-      map_at (name_at text) (take n at) i 0 [] (omega (arith, length-take-le n at fits)) ∙ ap (name_at text) (get_or-take n at i 0 h)
+      get_or-map (name_at text) (take n at) i 0 [] (omega (arith, length-take-le n at fits)) ∙ ap (name_at text) (get_or-take n at i 0 h)
 
 -- ## One more place
 
@@ -86,4 +69,4 @@ module _ (at : List ℕ) (count index p : ℕ) (h : index ≤ count) (k : count 
   put_names text =
       let f = name_at text in
       ap (map f) put_front ∙ map-append f (take index (take count at)) (p ∷ drop index (take count at))
-      ∙ rw (map_take f index (take count at), map_drop f index (take count at))
+      ∙ rw (take-map f index (take count at), drop-map f index (take count at))

@@ -1,122 +1,54 @@
 // The lines of a listing.
 use image::node::Node;
-use std::io;
+use std::{fmt, io};
 
-fn put(out: &impl Print, text: &[u8]) -> io::Result<()> {
-    out.write_all(text)
-}
+// A byte as it is listed: in quotes, or as two hexadecimal digits.
+#[derive(Clone, Copy)]
+struct Listed(u8);
 
-fn number(out: &impl Print, n: u32) -> io::Result<()> {
-    print!(out; " {n}")
-}
-
-// A byte as it is written, in quotes, or as two hexadecimal digits.
-fn byte(out: &impl Print, b: u8) -> io::Result<()> {
-    if b < 33 {
-        return hex(out, b);
+impl fmt::Display for Listed {
+    fn fmt<W: fmt::Write>(&self, f: &mut fmt::Formatter<W>) -> fmt::Result {
+        match self.0 {
+            b'!'..=b'~' => write!(f, "'{}'", char::from(self.0)),
+            _ => write!(f, "{:02x}", self.0),
+        }
     }
-    if 126 < b {
-        return hex(out, b);
-    }
-    put(out, b" '")?;
-    put(out, &[b])?;
-    put(out, b"'")
-}
-
-fn hex(out: &impl Print, b: u8) -> io::Result<()> {
-    print!(out; " {b:02x}")
-}
-
-// A name and its number, on a line.
-pub fn counted(out: &impl Print, name: &[u8], n: u32) -> io::Result<()> {
-    put(out, name)?;
-    println!(out; "{n}")
-}
-
-pub fn pattern(out: &impl Print, table: u32, node: u32) -> io::Result<()> {
-    println!(out; "table {table}: pattern {node}")
 }
 
 // A node's number and what it is.
 pub fn node(out: &impl Print, image: &[u8], n: u32, word: u32) -> io::Result<()> {
     print!(out; "node {n}: ")?;
-    kind(out, image, word)?;
-    put(out, b"\n")
-}
-
-fn kind(out: &impl Print, image: &[u8], word: u32) -> io::Result<()> {
-    let found = image::node_of(word);
-    match found {
-        Node::Empty => put(out, b"Empty"),
-        Node::Byte(b) => {
-            put(out, b"Byte")?;
-            byte(out, b)
-        }
-        Node::Range(lo, hi) => {
-            put(out, b"Range")?;
-            byte(out, lo)?;
-            byte(out, hi)
-        }
-        Node::Any => put(out, b"Any"),
-        Node::Text(place, count) => text(out, image, place as usize, count as usize),
-        Node::Sequence(a, b) => two(out, b"Sequence", a, b),
-        Node::Choice(a, b) => two(out, b"Choice", a, b),
-        Node::Star(a) => one(out, b"Star", a),
-        Node::Not(a) => one(out, b"Not", a),
-        Node::Call(a) => one(out, b"Call", a),
-        Node::Def(t) => one(out, b"Def", t),
-        Node::Match(t) => one(out, b"Match", t),
-        Node::Is(t) => one(out, b"Is", t),
-        Node::Isa(t) => one(out, b"Isa", t),
-        Node::Exists(t) => one(out, b"Exists", t),
-        Node::Block(t, a) => two(out, b"Block", t, a),
-        Node::Local(t, a) => two(out, b"Local", t, a),
-        Node::If(c, truth) => two(out, b"If", c, truth as u32),
-        Node::On(c, truth, a) => {
-            two(out, b"On", c, truth as u32)?;
-            number(out, a)
-        }
+    match image::node_of(word) {
+        Node::Empty => println!(out; "Empty"),
+        Node::Byte(b) => println!(out; "Byte {}", Listed(b)),
+        Node::Range(lo, hi) => println!(out; "Range {} {}", Listed(lo), Listed(hi)),
+        Node::Any => println!(out; "Any"),
+        Node::Text(place, count) => text(out, image, place, count),
+        Node::Sequence(a, b) => println!(out; "Sequence {a} {b}"),
+        Node::Choice(a, b) => println!(out; "Choice {a} {b}"),
+        Node::Star(a) => println!(out; "Star {a}"),
+        Node::Not(a) => println!(out; "Not {a}"),
+        Node::Call(a) => println!(out; "Call {a}"),
+        Node::Def(t) => println!(out; "Def {t}"),
+        Node::Match(t) => println!(out; "Match {t}"),
+        Node::Is(t) => println!(out; "Is {t}"),
+        Node::Isa(t) => println!(out; "Isa {t}"),
+        Node::Exists(t) => println!(out; "Exists {t}"),
+        Node::Block(t, a) => println!(out; "Block {t} {a}"),
+        Node::Local(t, a) => println!(out; "Local {t} {a}"),
+        Node::If(c, truth) => println!(out; "If {c} {}", u32::from(truth)),
+        Node::On(c, truth, a) => println!(out; "On {c} {} {a}", u32::from(truth)),
     }
-}
-
-fn one(out: &impl Print, name: &[u8], a: u32) -> io::Result<()> {
-    put(out, name)?;
-    number(out, a)
-}
-
-fn two(out: &impl Print, name: &[u8], a: u32, b: u32) -> io::Result<()> {
-    put(out, name)?;
-    number(out, a)?;
-    number(out, b)
 }
 
 // The bytes of a text, which stand in the image.
-fn text(out: &impl Print, image: &[u8], place: usize, count: usize) -> io::Result<()> {
-    put(out, b"Text")?;
-    let end = image.len();
-    if end < place {
-        return Ok(());
+fn text(out: &impl Print, image: &[u8], place: u32, count: u32) -> io::Result<()> {
+    print!(out; "Text")?;
+    let start = place as usize;
+    if let Some(bytes) = image.get(start..start + count as usize) {
+        for &b in bytes {
+            print!(out; " {}", Listed(b))?;
+        }
     }
-    if end - place < count {
-        return Ok(());
-    }
-    let bytes = &image[place..place + count];
-    for b in bytes {
-        byte(out, *b)?;
-    }
-    Ok(())
-}
-
-// What a refusal's number says.
-pub fn reason(out: &impl Print, number: u32) -> io::Result<()> {
-    match number {
-        1 => put(out, b": the image is over 16,384 bytes\n"),
-        2 => put(out, b": the image ends too early\n"),
-        3 => put(out, b": a number is badly written\n"),
-        4 => put(out, b": the edition is not 1\n"),
-        5 => put(out, b": too many tables, conditions or nodes, or no node\n"),
-        6 => put(out, b": no kind has this tag\n"),
-        7 => put(out, b": a start, pattern or operand is outside its range\n"),
-        _ => put(out, b": bytes after the last node\n"),
-    }
+    println!(out)
 }

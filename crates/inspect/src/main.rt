@@ -4,7 +4,8 @@
 
 mod listing;
 
-use files::{Taken, argument};
+use files::{TakeError, argument};
+use image::Head;
 use std::io;
 use std::rt::Files;
 
@@ -26,49 +27,37 @@ fn main(rt: HostRuntime) -> io::Result<()> {
 // One byte more than an image may have is enough to see that it has too many.
 fn inspect(rt: &(impl Files + Print), err: &impl Print, path: &[u8]) -> io::Result<()> {
     let mut image = [0u8; 16385];
-    let taken = files::take(rt, path, &mut image);
-    match taken {
-        Taken::Bytes(n) => describe(rt, &image[..n]),
-        Taken::Unopened(why) => files::fail(err, path, why),
-        Taken::Unread(why) => files::fail(err, path, why),
+    match files::take(rt, path, &mut image) {
+        Ok(n) => describe(rt, &image[..n]),
+        Err(TakeError::Unopened(why) | TakeError::Unread(why)) => files::fail(err, path, why),
     }
 }
 
 fn describe(out: &impl Print, image: &[u8]) -> io::Result<()> {
     let mut code = [0u32; 524];
-    let found = image::load(image, &mut code);
-    match found {
-        image::walk::Loaded::Good(tables, conditions, nodes, start) => {
-            listing::counted(out, b"tables ", tables)?;
-            listing::counted(out, b"conditions ", conditions)?;
-            listing::counted(out, b"nodes ", nodes)?;
-            listing::counted(out, b"start ", start)?;
-            patterns(out, &code, tables)?;
-            nodes_of(out, image, &code, nodes)
-        }
-        image::walk::Loaded::Refused(f) => {
-            let number = f.number;
-            let place = f.place;
-            print!(out; "refuse {number} {place}")?;
-            listing::reason(out, number)
-        }
+    match image::load(image, &mut code) {
+        Ok(head) => list(out, image, head, &code),
+        Err(refusal) => println!(out;
+            "refuse {} {}: {}",
+            refusal.fault.number(),
+            refusal.place,
+            refusal.fault
+        ),
     }
 }
 
-fn patterns(out: &impl Print, code: &[u32; 524], tables: u32) -> io::Result<()> {
-    for t in 0..8u32 {
-        if t < tables {
-            listing::pattern(out, t, code[(512 + t) as usize])?;
-        }
+// The counts, each table's pattern and each node.
+fn list(out: &impl Print, image: &[u8], head: Head, code: &[u32; 524]) -> io::Result<()> {
+    println!(out; "tables {}", head.tables)?;
+    println!(out; "conditions {}", head.conditions)?;
+    println!(out; "nodes {}", head.nodes)?;
+    println!(out; "start {}", head.start)?;
+    for t in 0..head.tables {
+        let pattern = code[(512 + t) as usize];
+        println!(out; "table {t}: pattern {pattern}")?;
     }
-    Ok(())
-}
-
-fn nodes_of(out: &impl Print, image: &[u8], code: &[u32; 524], nodes: u32) -> io::Result<()> {
-    for n in 0..512u32 {
-        if n < nodes {
-            listing::node(out, image, n, code[n as usize])?;
-        }
+    for n in 0..head.nodes {
+        listing::node(out, image, n, code[n as usize])?;
     }
     Ok(())
 }

@@ -2,6 +2,7 @@
 -- `compared`, `stored`, `closed`.
 use Rattle.std.specs.Prelude.{ℕ, ◌+◌, ◌*◌, ◌≤◌, ◌≡◌, Bool, List, ltb, length}
 use Rattle.format.specs.Reading.{pick}
+use Rattle.parts.specs.declared.outcome.Stop.TheVariants.{Room}
 use Rattle.parts.specs.declared.outcome.Outcome.{Outcome}
 use Rattle.parts.specs.declared.outcome.Outcome.TheVariants.{Passed, Failed, Refused}
 use Rattle.parts.specs.Slots.{putting, Closes}
@@ -43,7 +44,7 @@ compared_of test held (Refused n p s d) = Refused n p s d
 
 -- Def: what was stored inside is dropped, and the name is stored if there is room. The outcome, and the slots then.
 abbrev pub defined_of : (room table at held : ℕ) → Outcome → Outcome
-defined_of room table at held (Passed a h s d) = pick (ltb held room) (Passed a (held + 1) s d) (Refused 14 at s d)
+defined_of room table at held (Passed a h s d) = pick (ltb held room) (Passed a (held + 1) s d) (Refused Room at s d)
 defined_of room table at held (Failed s d) = Failed s d
 defined_of room table at held (Refused n p s d) = Refused n p s d
 

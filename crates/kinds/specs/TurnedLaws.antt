@@ -5,6 +5,8 @@ use Rattle.format.specs.Reading.{pick}
 use Rattle.meaning.specs.State.{Symbol}
 use Rattle.meaning.specs.Outcome.{text}
 use Rattle.meaning.specs.Inside.{Part}
+use Rattle.parts.specs.declared.outcome.Stop.{Stop}
+use Rattle.parts.specs.declared.outcome.Stop.TheVariants.{Room}
 use Rattle.parts.specs.declared.outcome.Outcome.{Outcome}
 use Rattle.parts.specs.declared.outcome.Outcome.TheVariants.{Passed, Failed, Refused}
 use Rattle.parts.specs.Slots.{putting, Closes}
@@ -13,11 +15,22 @@ use Rattle.kinds.specs.Turned.{Bounds, Lent, negated_of, restored_of, compared_o
 -- An outcome that is not passed; one that is not failed.
 pub data Stops : Outcome → Type 0 where
   at_failed : {s d : ℕ} → Stops (Failed s d)
-  at_refused : {n p s d : ℕ} → Stops (Refused n p s d)
+  at_refused : {n : Stop} {p s d : ℕ} → Stops (Refused n p s d)
 
 pub data Stays : Outcome → Type 0 where
   on_passed : {a h s d : ℕ} → Stays (Passed a h s d)
-  on_refused : {n p s d : ℕ} → Stays (Refused n p s d)
+  on_refused : {n : Stop} {p s d : ℕ} → Stays (Refused n p s d)
+
+-- Which an outcome is.
+pub stops : (o : Outcome) → ((a h s d : ℕ) → o ≡ Passed a h s d → ⊥) → Stops o
+stops (Passed a h s d) f = absurd (f a h s d refl)
+stops (Failed s d) f = at_failed
+stops (Refused n p s d) f = at_refused
+
+pub stays : (o : Outcome) → ((s d : ℕ) → o ≡ Failed s d → ⊥) → Stays o
+stays (Passed a h s d) f = on_passed
+stays (Failed s d) f = absurd (f s d refl)
+stays (Refused n p s d) f = on_refused
 
 -- What is not passed is handed on as it is.
 pub restored_stops : {o : Outcome} (held : ℕ) → Stops o → o ≡ restored_of held o
@@ -58,14 +71,14 @@ module _ (room table at held : ℕ) (slots : List ℕ) {o : Outcome} (a h s d : 
   pub defined_stores : held < room → {q : Outcome} → q ≡ Passed a (held + 1) s d → {after : List ℕ} → after ≡ putting slots held table at a
       → (q ≡ defined_of room table at held o) × (after ≡ defined_in room table at held o slots)
   defined_stores l f g = (
-    f ∙ sym (ap (defined_of room table at held) e ∙ ap (λ b. pick b (Passed a (held + 1) s d) (Refused 14 at s d)) (lt-ltb held room l)),
+    f ∙ sym (ap (defined_of room table at held) e ∙ ap (λ b. pick b (Passed a (held + 1) s d) (Refused Room at s d)) (lt-ltb held room l)),
     g ∙ sym (ap (λ o. defined_in room table at held o slots) e ∙ ap (λ b. pick b (putting slots held table at a) slots) (lt-ltb held room l)),
   )
 
-  pub defined_full : room ≤ held → {q : Outcome} → q ≡ Refused 14 at s d → {after : List ℕ} → after ≡ slots
+  pub defined_full : room ≤ held → {q : Outcome} → q ≡ Refused Room at s d → {after : List ℕ} → after ≡ slots
       → (q ≡ defined_of room table at held o) × (after ≡ defined_in room table at held o slots)
   defined_full l f g = (
-    f ∙ sym (ap (defined_of room table at held) e ∙ ap (λ b. pick b (Passed a (held + 1) s d) (Refused 14 at s d)) (le-ltb held room l)),
+    f ∙ sym (ap (defined_of room table at held) e ∙ ap (λ b. pick b (Passed a (held + 1) s d) (Refused Room at s d)) (le-ltb held room l)),
     g ∙ sym (ap (λ o. defined_in room table at held o slots) e ∙ ap (λ b. pick b (putting slots held table at a) slots) (le-ltb held room l)),
   )
 

@@ -10,40 +10,40 @@ pub struct State {
     pub floors: [u16; 8],
 }
 
-// The truth of a condition.
-pub fn truth(state: State, condition: u32) -> bool
-    requires { condition < 8 }
-    ensures { result ≡ get_or (env_of state).truths condition true }
-{
-    let truths = state.truths;
-    truths[condition as usize]
-}
+impl State {
+    // The truth of a condition.
+    pub fn truth(self, condition: u32) -> bool
+        requires { condition < 8 }
+        ensures { result ≡ get_or (env_of self).truths condition true }
+    {
+        self.truths[condition as usize]
+    }
 
-// How many symbols are hidden from a table.
-pub fn floor(state: State, table: u32) -> u32
-    requires { table < 8 }
-    ensures { result ≡ get_or (env_of state).floors table 0 }
-{
-    let floors = state.floors;
-    floors[table as usize] as u32
-}
+    // How many symbols are hidden from a table.
+    pub fn floor(self, table: u32) -> u32
+        requires { table < 8 }
+        ensures { result ≡ get_or (env_of self).floors table 0 }
+    {
+        u32::from(self.floors[table as usize])
+    }
 
-// Inside an On the condition has the named truth.
-pub fn with_truth(state: State, condition: u32, truth: bool) -> State
-    requires { condition < 8 }
-    ensures { env_of result ≡ switch (env_of state) condition truth }
-{
-    let mut inside = state;
-    inside.truths[condition as usize] = truth;
-    inside
-}
+    // Inside an On the condition has the named truth.
+    pub fn with_truth(self, condition: u32, truth: bool) -> State
+        requires { condition < 8 }
+        ensures { env_of result ≡ switch (env_of self) condition truth }
+    {
+        let mut inside = self;
+        inside.truths[condition as usize] = truth;
+        inside
+    }
 
-// Inside a Local everything held so far is hidden from the table.
-pub fn with_floor(state: State, table: u32, held: u32) -> State
-    requires { (table < 8) × (held ≤ 256) }
-    ensures { env_of result ≡ hiding (env_of state) table held }
-{
-    let mut inside = state;
-    inside.floors[table as usize] = held as u16;
-    inside
+    // Inside a Local everything held so far is hidden from the table.
+    pub fn with_floor(self, table: u32, held: u32) -> State
+        requires { (table < 8) × (held ≤ 256) }
+        ensures { env_of result ≡ hiding (env_of self) table held }
+    {
+        let mut inside = self;
+        inside.floors[table as usize] = held as u16;
+        inside
+    }
 }

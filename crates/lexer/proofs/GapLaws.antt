@@ -1,251 +1,116 @@
 -- A gap, a byte at a time.
-use Prim.Native.Nat.{ℕ, ◌+◌, ◌≤◌, ◌<◌}
-use mathlib.Core.Path.{◌≡◌, refl, ap, ◌∙◌}
-use mathlib.Core.Bool.{Bool, true, false}
-use mathlib.Core.List.{List, [], ◌∷◌}
-use native.Mathlib.Omega.{arith}
-use lib.Dec.{eqb}
-use lib.ListN.{drop, length, get_or, drop_of_length-le}
-use lib.Seq.{drop-cons}
-use borrow.Author.Tests.{eq-eqb, ne_eqb, eqb-false}
-use Rattle.format.specs.Reading.{pick}
+use Rattle.std.proofs.Common.{ℕ, ◌≤◌, ◌<◌, ◌≡◌, refl, ap, ◌∙◌, Bool, true, false, List, [], ◌∷◌, cond, nat_eq, eqb, one-add, arith, length, drop}
+use Rattle.std.specs.Prelude.{Option, Some, None, Result, Ok, Err, is_some, unwrap_or, nat_lt}
+use Rattle.std.specs.List.{position, position_or_len}
+use borrow.Author.Tests.{ne_eqb, eqb-false, ltb-false}
 use Rattle.notation.specs.Bytes.{blank}
-use Rattle.notation.specs.Lexer.{Front, white, line_comment, block_comment, solid, front, second, Inside, outside, opening, in_block, starred, Skipped, past, unclosed, skip, gap, block_on, star_on}
+use Rattle.notation.specs.Lexer.{solid, front, in_line, in_block, Skipped, past, unclosed, skip, gap, block_on}
 use Rattle.notation.specs.LexicalText.{no_way}
-use Rattle.lexer.specs.Gaps.{inside_of, moved, Stepped, Without, Further, skipped, place, Skips}
-use Rattle.lexer.specs.declared.gap.Gap.{Gap}
-use Rattle.lexer.specs.declared.gap.Gap.TheVariants.{At, Open}
-use Rattle.lexer.proofs.PlaceLaws.{at_place, in_text}
+use Rattle.lexer.specs.Gaps.{CommentIn, Stepped, Further, skipped, place, Skips}
+use Rattle.lexer.specs.declared.gap.Inside.TheVariants.{Outside, InLine, Opening, InBlock, Starred}
+use Rattle.lexer.specs.declared.gap.Inside as C
+use Rattle.lexer.specs.declared.gap.OpenComment.{OpenComment}
+use Rattle.lexer.proofs.PlaceLaws.{in_text}
 
--- ## What a byte begins
-
--- The number of what a byte begins.
-abbrev pub number : Front → ℕ
-number white = 0
-number line_comment = 1
-number block_comment = 2
-number solid = 5
-
-number_small : (f : Front) → number f ≤ 5
-number_small white = omega arith
-number_small line_comment = omega arith
-number_small block_comment = omega arith
-number_small solid = omega arith
+-- ## A byte at the front
 
 module _ (b : ℕ) (s : List ℕ) where
-  pub begins_blank : blank b ≡ true → front b s ≡ white
-  unfolding front
-  begins_blank e = rw e
-
   pub begins_solid : blank b ≡ false → (b ≡ 47 → ⊥) → front b s ≡ solid
   unfolding front
   begins_solid e n = rw (e, ne_eqb b 47 n)
 
-  pub begins_slash : blank b ≡ false → b ≡ 47 → front b s ≡ second s
-  unfolding front
-  begins_slash e n = rw (e, eq-eqb b 47 n)
+  line_past : (b ≡ 10 → ⊥) → skip in_line (b ∷ s) ≡ skip in_line s
+  unfolding skip
+  line_past n = rw (ne_eqb b 10 n, skip)
 
-module _ (t : List ℕ) (j : ℕ) where
-  pub second_none : length t ≤ j → second (drop j t) ≡ solid
-  unfolding second
-  second_none h = rw (drop_of_length-le t h)
+  block_past : (c : List ℕ) → (b ≡ 42 → ⊥) → skip (in_block c) (b ∷ s) ≡ skip (in_block c) s
+  unfolding skip block_on
+  block_past c n = ap (λ m. skip m s) {x = block_on c b} {y = in_block c} (rw (ne_eqb b 42 n))
 
-  module _ (h : j < length t) where
-    pub second_line : get_or t j 0 ≡ 47 → second (drop j t) ≡ line_comment
-    unfolding second
-    second_line e = rw (drop-cons t j 0 h, eq-eqb (get_or t j 0) 47 e)
+-- ## Further on at once: to the first byte that is this one
 
-    pub second_block : (get_or t j 0 ≡ 47 → ⊥) → get_or t j 0 ≡ 42 → second (drop j t) ≡ block_comment
-    unfolding second
-    second_block n e = rw (drop-cons t j 0 h, ne_eqb (get_or t j 0) 47 n, eq-eqb (get_or t j 0) 42 e)
-
-    pub second_other : (get_or t j 0 ≡ 47 → ⊥) → (get_or t j 0 ≡ 42 → ⊥) → second (drop j t) ≡ solid
-    unfolding second
-    second_other e f = rw (drop-cons t j 0 h, ne_eqb (get_or t j 0) 47 e, ne_eqb (get_or t j 0) 42 f)
-
--- ## A step
-
--- A byte takes one from a place of a gap to the next, whatever comes behind it.
-abbrev pub Goes : (b n r : ℕ) → Type 0
-Goes b n r = (c s : List ℕ) → skip (inside_of n c) (b ∷ s) ≡ moved r c (b ∷ s) s
-
-pub stepped : (t : List ℕ) (i : ℕ) {n r : ℕ} → i < length t → r ≤ 5 → Goes (get_or t i 0) n r → Stepped t i n r
-stepped t i h l g =
-    record { goes = λ c. rw (at_place t i h) (g c (drop (i + 1) t)); small = l }
-
-pub outside_goes : (t : List ℕ) (i : ℕ) (f : Front) → i < length t → front (get_or t i 0) (drop (i + 1) t) ≡ f → Stepped t i 0 (number f)
-unfolding skip moved inside_of
-outside_goes t i f h e = record { goes = λ c. rw (at_place t i h) (go c f e); small = number_small f }
+up_to : (f : List ℕ → Skipped) (b : ℕ) → ((x : ℕ) (s : List ℕ) → (x ≡ b → ⊥) → f (x ∷ s) ≡ f s)
+    → (s : List ℕ) → f s ≡ f (drop (position_or_len (λ x. nat_eq x b) s) s)
+up_to f b k [] = refl
+up_to f b k (x ∷ s) = go (up_to f b k s) (eqb x b) refl
   where
-    b : ℕ
-    b = get_or t i 0
+    go : f s ≡ f (drop (position_or_len (λ x. nat_eq x b) s) s) → (t : Bool) → eqb x b ≡ t → f (x ∷ s) ≡ f (drop (position_or_len (λ x. nat_eq x b) (x ∷ s)) (x ∷ s))
+    go i true e = rw e
+    go i false e = k x s (eqb-false x b e) ∙ i ∙ rw (e, one-add) refl
 
-    s : List ℕ
-    s = drop (i + 1) t
+up_to_within : (b : ℕ) (s : List ℕ) → position_or_len (λ x. nat_eq x b) s ≤ length s
+up_to_within b [] = omega arith
+up_to_within b (x ∷ s) = go (up_to_within b s) (eqb x b) refl
+  where
+    go : position_or_len (λ x. nat_eq x b) s ≤ length s → (t : Bool) → eqb x b ≡ t → position_or_len (λ x. nat_eq x b) (x ∷ s) ≤ length (x ∷ s)
+    go h true e = rw e (omega arith)
+    go h false e = rw e (omega arith)
 
-    go : (c : List ℕ) (f : Front) → front b s ≡ f → skip outside (b ∷ s) ≡ moved (number f) c (b ∷ s) s
-    go c white e = rw (e, skip)
-    go c line_comment e = rw (e, skip)
-    go c block_comment e = rw (e, skip)
-    go c solid e = rw (e, skip)
+-- What `position` finds, or the end.
+first_is : (b : ℕ) (s : List ℕ) → unwrap_or (position (λ x. nat_eq x b) s) (length s) ≡ position_or_len (λ x. nat_eq x b) s
+first_is b s = go (nat_lt (position_or_len (λ x. nat_eq x b) s) (length s)) refl
+  where
+    n : ℕ
+    n = position_or_len (λ x. nat_eq x b) s
 
-pub outside_is : {t : List ℕ} {i n r : ℕ} → n ≡ 0 → Stepped t i 0 r → Stepped t i n r
-outside_is k g = rw k g
+    go : (t : Bool) → nat_lt n (length s) ≡ t → unwrap_or (cond t (Some n) None) (length s) ≡ n
+    go true e = refl
+    go false e = let h = ltb-false n (length s) e in let k = up_to_within b s in omega arith
 
-module _ (b : ℕ) (c s : List ℕ) where
-  block_to : {m : Inside} → block_on c b ≡ m → skip (in_block c) (b ∷ s) ≡ skip m s
-  unfolding skip
-  block_to e = ap (λ m. skip m s) e
+module _ (s : List ℕ) where
+  pub line_further : Further s InLine (unwrap_or (position (λ x. nat_eq x 10) s) (length s))
+  line_further = rw (first_is 10 s) (record { goes = λ t. up_to (skip in_line) 10 (λ x s n. line_past x s n) s; within = up_to_within 10 s })
 
-  star_to : {m : Inside} → star_on c b ≡ m → skip (starred c) (b ∷ s) ≡ skip m s
-  unfolding skip
-  star_to e = ap (λ m. skip m s) e
-
-module _ (b n : ℕ) where
-  pub line_ends : n ≡ 1 → b ≡ 10 → Goes b n 0
-  unfolding inside_of moved skip
-  line_ends k e c s = rw (k, eq-eqb b 10 e, skip)
-
-  pub line_on : n ≡ 1 → (b ≡ 10 → ⊥) → Goes b n 1
-  unfolding inside_of moved skip
-  line_on k e c s = rw (k, ne_eqb b 10 e, skip)
-
-  pub block_opens : n ≡ 2 → Goes b n 3
-  unfolding inside_of moved skip
-  block_opens k c s = rw k
-
-  pub block_on_lem : n ≡ 3 → (b ≡ 42 → ⊥) → Goes b n 3
-  unfolding inside_of moved block_on
-  block_on_lem k e c s = rw k (block_to b c s (rw (ne_eqb b 42 e)))
-
-  pub star_ends : n ≡ 4 → b ≡ 47 → Goes b n 0
-  unfolding inside_of moved star_on
-  star_ends k e c s = rw k (star_to b c s (rw (eq-eqb b 47 e)))
-
-  pub star_on_lem : n ≡ 4 → (b ≡ 42 → ⊥) → (b ≡ 47 → ⊥) → Goes b n 3
-  unfolding inside_of moved block_on star_on
-  star_on_lem k e f c s = rw k (star_to b c s (rw (ne_eqb b 47 f, ne_eqb b 42 e)))
-
-  pub star_here : 3 ≤ n → b ≡ 42 → Goes b n 4
-  unfolding inside_of moved block_on star_on
-  star_here k e c s =
-      rw (ne_eqb n 0 (λ z. omega arith), ne_eqb n 1 (λ z. omega arith), ne_eqb n 2 (λ z. omega arith)) (go (eqb n 3))
-    where
-      go : (t : Bool) → skip (pick t (in_block c) (starred c)) (b ∷ s) ≡ skip (starred c) s
-      go true = block_to b c s (rw (eq-eqb b 42 e))
-      go false = star_to b c s (rw (ne_eqb b 47 (λ z. omega arith), eq-eqb b 42 e))
-
--- A step that ends the gap, one that begins a comment, and one that goes on.
-module _ {n : ℕ} (c here next : List ℕ) where
-  pub stops : n ≡ 5 → moved n c here next ≡ past here
-  unfolding moved
-  stops k = rw k
-
-  pub opens : n ≡ 2 → moved n c here next ≡ skip (inside_of n here) next
-  unfolding moved
-  opens k = rw k
-
-  pub goes_on : (n ≡ 5 → ⊥) → (n ≡ 2 → ⊥) → moved n c here next ≡ skip (inside_of n c) next
-  unfolding moved
-  goes_on k l = rw (ne_eqb n 5 k, ne_eqb n 2 l)
+  pub block_further : (n : ℕ) → Further s (InBlock n) (unwrap_or (position (λ x. nat_eq x 42) s) (length s))
+  block_further n = rw (first_is 42 s) (record { goes = λ t. up_to (skip (in_block (drop n t))) 42 (λ x s m. block_past x s (drop n t) m) s; within = up_to_within 42 s })
 
 -- Where a gap ends at once.
-pub no_gap : {t : List ℕ} {i n : ℕ} → n ≡ 5 → Stepped t i 0 n → gap (drop i t) ≡ past (drop i t)
-unfolding inside_of
-no_gap {t} {i} k g = g.goes (drop i t) ∙ stops _ _ _ k
-
--- The end of the text.
-module _ (t : List ℕ) (i n : ℕ) (c : List ℕ) (h : length t ≤ i) where
-  pub text_ends : n < 2 → skip (inside_of n c) (drop i t) ≡ past (drop i t)
-  unfolding inside_of skip
-  text_ends l = go (eqb n 0) refl
-    where
-      go : (e : Bool) → eqb n 0 ≡ e → skip (inside_of n c) (drop i t) ≡ past (drop i t)
-      go true e = rw (drop_of_length-le t h, e)
-      go false e = rw (drop_of_length-le t h, e, eq-eqb n 1 (let z = eqb-false n 0 e in omega arith))
-
-  pub text_breaks : 2 ≤ n → skip (inside_of n c) (drop i t) ≡ unclosed c
-  unfolding inside_of skip
-  text_breaks l =
-      rw (drop_of_length-le t h, ne_eqb n 0 (λ z. omega arith), ne_eqb n 1 (λ z. omega arith)) (go (eqb n 2) (eqb n 3))
-    where
-      go : (a b : Bool) → skip (pick a (opening c) (pick b (in_block c) (starred c))) [] ≡ unclosed c
-      go true b = refl
-      go false true = refl
-      go false false = refl
-
--- ## Further on at once
-
--- A byte more that is another.
-pub one_on : {t : List ℕ} {b j i : ℕ} → Without t b j i → i < length t → (get_or t i 0 ≡ b → ⊥) → Without t b j (i + 1)
-one_on {t} {i = i} w h n = record {
-  goes = λ f k. w.goes f k ∙ rw (at_place t i h) (k (get_or t i 0) (drop (i + 1) t) n);
-  onward = omega (arith, w.onward);
-  inside = λ z. omega arith;
-}
-
-module _ {t : List ℕ} {i r : ℕ} where
-  in_line_on : Without t 10 i r → Further t 1 i r
-  in_line_on w = record {
-    goes = λ c. w.goes (λ s. skip (inside_of 1 c) s) (λ x s e. line_on x 1 refl e c s ∙ goes_on c (x ∷ s) s (λ z. omega arith) (λ z. omega arith));
-    onward = w.onward;
-    within = w.inside;
-  }
-
-  pub line_further : {n : ℕ} → n ≡ 1 → Without t 10 i r → Further t n i r
-  line_further k w = rw k (in_line_on w)
-
-  in_block_on : Without t 42 i r → Further t 3 i r
-  in_block_on w = record {
-    goes = λ c. w.goes (λ s. skip (inside_of 3 c) s) (λ x s e. block_on_lem x 3 refl e c s ∙ goes_on c (x ∷ s) s (λ z. omega arith) (λ z. omega arith));
-    onward = w.onward;
-    within = w.inside;
-  }
-
-  pub block_further : {n : ℕ} → n ≡ 3 → Without t 42 i r → Further t n i r
-  block_further k w = rw k (in_block_on w)
-
-  pub then_further : {n : ℕ} {x : Skipped} (c : List ℕ) → Further t n i r → x ≡ skip (inside_of n c) (drop i t) → x ≡ skip (inside_of n c) (drop r t)
-  then_further c f e = e ∙ f.goes c
-
-pub stays : {t : List ℕ} {n i : ℕ} → Further t n i i
-stays = record { goes = λ c. refl; onward = omega arith; within = λ z. z }
+pub no_gap : {t : List ℕ} {i : ℕ} {r : Option C.Inside} → is_some r ≡ false → Stepped t i Outside r → gap (drop i t) ≡ past (drop i t)
+no_gap {r = None} e g = g.goes
+no_gap {r = Some m} e g = no_way (cc)
 
 -- The whole gap.
 module _ (t : List ℕ) (start n : ℕ) (h : start ≤ n) (l : start ≤ length t → n ≤ length t) where
-  pub ended : gap (drop start t) ≡ past (drop n t) → Skips t start (At n)
+  pub ended : gap (drop start t) ≡ past (drop n t) → Skips t start (Ok n)
   unfolding skipped place
   ended e = record { goes = e; onward = h; inside = l }
 
-  pub broken : gap (drop start t) ≡ unclosed (drop n t) → Skips t start (Open n)
-  unfolding skipped place
-  broken e = record { goes = e; onward = h; inside = l }
+-- A place further on.
+module _ (low high more : ℕ) (h : high ≤ more) where
+  pub comment_on : (m : C.Inside) → CommentIn low high m → CommentIn low more m
+  comment_on Outside c = tt
+  comment_on InLine c = tt
+  comment_on (Opening n) c = omega arith
+  comment_on (InBlock n) c = omega arith
+  comment_on (Starred n) c = omega arith
 
 -- What the promise says of a gap that ends at a place, and of one whose comment is open from there on.
-module _ {t : List ℕ} {at n : ℕ} {g : Gap} (h : Skips t at g) where
-  pub gap_past : g ≡ At n → gap (drop at t) ≡ past (drop n t)
-  unfolding skipped
-  gap_past e = h.goes ∙ ap (skipped t) e
+module _ {t : List ℕ} {at : ℕ} {g : Result ℕ OpenComment} (h : Skips t at g) where
+  module _ {n : ℕ} (e : g ≡ Ok n) where
+    pub gap_past : gap (drop at t) ≡ past (drop n t)
+    unfolding skipped
+    gap_past = h.goes ∙ ap (skipped t) e
 
-  pub gap_open : g ≡ Open n → gap (drop at t) ≡ unclosed (drop n t)
-  unfolding skipped
-  gap_open e = h.goes ∙ ap (skipped t) e
+    pub past_onward : at ≤ n
+    unfolding place
+    past_onward = rw e at h.onward
 
-  pub past_onward : g ≡ At n → at ≤ n
-  unfolding place
-  past_onward e = rw e at h.onward
+    pub past_inside : at ≤ length t → n ≤ length t
+    unfolding place
+    past_inside l = rw e at (h.inside l)
 
-  pub past_inside : g ≡ At n → at ≤ length t → n ≤ length t
-  unfolding place
-  past_inside e l = rw e at (h.inside l)
+  module _ {c : OpenComment} (e : g ≡ Err c) where
+    pub gap_open : gap (drop at t) ≡ unclosed (drop c.at t)
+    unfolding skipped
+    gap_open = h.goes ∙ ap (skipped t) e
 
-  pub open_onward : g ≡ Open n → at ≤ n
-  unfolding place
-  open_onward e = rw e at h.onward
+    pub open_onward : at ≤ c.at
+    unfolding place
+    open_onward = rw e at h.onward
 
-  pub open_inside : g ≡ Open n → n ≤ length t
-  unfolding place skip
-  open_inside e =
-      let f = gap_open e in
-      let l : at < length t = in_text t at (λ (z : drop at t ≡ []). no_way (cc)) in
-      rw e at (h.inside (omega arith))
+    pub open_inside : c.at ≤ length t
+    unfolding place skip
+    open_inside =
+        let f = gap_open in
+        let l : at < length t = in_text t at (λ (z : drop at t ≡ []). no_way (cc)) in
+        rw e at (h.inside (omega arith))

@@ -1,11 +1,11 @@
 -- Quoted texts and classes stand where their tokens begin.
 use Prim.Native.Nat.{ℕ, ◌+◌, ◌<◌}
-use mathlib.Core.Path.{◌≡◌, refl, ap, subst, ◌∙◌}
+use mathlib.Core.Path.{◌≡◌, refl, ap, ◌∙◌}
 use mathlib.Core.Bool.{false, true}
 use mathlib.Core.List.{List, [], ◌∷◌}
 use lib.ListN.{length, drop, get_or}
 use Rattle.notation.specs.Bytes.{one_of}
-use Rattle.notation.specs.Tree.{Part, Leaf, quoted, class}
+use Rattle.notation.specs.Tree.{Part, quoted, class}
 use Rattle.notation.specs.Token.{leaf, bad, Lexeme}
 use Rattle.notation.specs.Token as N
 use Rattle.notation.specs.Lexical.{Spelled, a_text, a_class}
@@ -15,7 +15,9 @@ use Rattle.notation.specs.Lexer.{Piece, piece, no, Skipped, past, unclosed, gap,
 use Rattle.notation.specs.At.{quoted_of, parts_of, class_of}
 use Rattle.chars.specs.Meant.{QuotedAt, ClassAt}
 use Rattle.lexer.specs.declared.token.Token.{Token}
-use Rattle.lexer.specs.Meant.{leaf_at, meant, ahead, Lexed}
+use Rattle.lexer.specs.declared.token.Kind.TheVariants as Kind
+use Rattle.lexer.specs.declared.token.Leaf.{Leaf}
+use Rattle.lexer.specs.Meant.{leaf_at, meant_by, ahead_by, Lexed}
 use Rattle.lexer.proofs.PlaceLaws.{at_place, in_text}
 use Rattle.lexer.proofs.LexemeLaws.{lexemes_end, lexemes_open, lexemes_no, lexemes_token}
 
@@ -61,24 +63,22 @@ module _ (text : List ℕ) (p : ℕ) where
     record { what = q ∷ qs; rest = r; is = rw (front_rest text p e) (parts_complete D) },
   )
 
-module _ {text : List ℕ} {from : ℕ} {t : Token} (L : Lexed text from t) (e : t.kind ≡ 5) where
-  leaf_spelled : (r : List ℕ) × Spelled (leaf (leaf_at text t)) (drop t.start text) r
-  unfolding ahead meant
+module _ {text : List ℕ} {from : ℕ} {t : Token} (L : Lexed text from t) {l : Leaf} (e : t.kind ≡ Kind.Leaf l) where
+  leaf_spelled : (r : List ℕ) × Spelled (leaf (leaf_at text t l)) (drop t.start text) r
+  unfolding ahead_by meant_by
   leaf_spelled =
-      let l : Lexeme = record { here = drop t.start text; token = leaf (leaf_at text t) } in
-      first_spelled (drop from text) l (lexemes (drop t.next text)) (L.goes ∙ rw e) (λ z. no_way (cc))
+      let x : Lexeme = record { here = drop t.start text; token = leaf (leaf_at text t l) } in
+      first_spelled (drop from text) x (lexemes (drop t.next text)) (L.goes ∙ rw e) (λ z. no_way (cc))
 
-  leaf_is : {l : Leaf} → leaf_at text t ≡ l → Spelled (leaf l) (drop t.start text) leaf_spelled.0
-  leaf_is f = subst (λ l. Spelled (leaf l) (drop t.start text) leaf_spelled.0) f leaf_spelled.1
-
-  pub quoted_here : t.symbol ≡ 2 → QuotedAt text t.start
+module _ {text : List ℕ} {from : ℕ} {t : Token} (L : Lexed text from t) where
+  pub quoted_here : t.kind ≡ Kind.Leaf Leaf.Quoted → QuotedAt text t.start
   unfolding leaf_at
-  quoted_here f = quoted_spelled text t.start {x = quoted_of (drop t.start text)} (leaf_is (rw f)) refl
+  quoted_here e = quoted_spelled text t.start {x = quoted_of (drop t.start text)} (leaf_spelled L e).1 refl
 
-  pub class_here_lem : t.symbol ≡ 3 → ClassAt text t.start
+  pub class_here_lem : t.kind ≡ Kind.Leaf Leaf.Class → ClassAt text t.start
   unfolding leaf_at class_of
-  class_here_lem f = go (parts_of (drop t.start text)) refl (leaf_is {l = class_of (parts_of (drop t.start text))} (rw f))
+  class_here_lem e = go (parts_of (drop t.start text)) refl (leaf_spelled L e).1
     where
-      go : (ps : List Part) → parts_of (drop t.start text) ≡ ps → Spelled (leaf (class_of ps)) (drop t.start text) leaf_spelled.0 → ClassAt text t.start
-      go [] q S = absurd (L.parted e f q)
+      go : (ps : List Part) → parts_of (drop t.start text) ≡ ps → Spelled (leaf (class_of ps)) (drop t.start text) (leaf_spelled L e).0 → ClassAt text t.start
+      go [] q S = absurd (L.parted e q)
       go (p ∷ ps) q S = class_spelled text t.start S refl

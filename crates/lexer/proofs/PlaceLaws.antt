@@ -1,5 +1,5 @@
 -- Places of a text.
-use Prim.Native.Nat.{ℕ, ◌+◌, ◌<◌}
+use Prim.Native.Nat.{ℕ, ◌+◌, ◌≤◌, ◌<◌}
 use mathlib.Core.Path.{◌≡◌, refl}
 use mathlib.Core.Bool.{Bool, true, false}
 use mathlib.Core.List.{List, [], ◌∷◌}
@@ -13,6 +13,10 @@ module _ (t : List ℕ) (i : ℕ) where
   -- What stands at a place is the byte there and what stands behind it.
   pub at_place : i < length t → drop i t ≡ get_or t i 0 ∷ drop (i + 1) t
   at_place h = rw (drop-cons t i 0 h, ← add-one i)
+
+  -- Behind the text nothing stands.
+  pub over : length t ≤ i → drop i t ≡ []
+  over h = drop_of_length-le t h
 
   -- Where something stands, the place is in the text.
   pub in_text : (drop i t ≡ [] → ⊥) → i < length t

@@ -1,48 +1,53 @@
--- What the code's numbers in a gap stand for, and what is promised of a gap.
-use Rattle.std.specs.Prelude.{ℕ, ◌+◌, ◌≤◌, ◌≡◌, List, ◌∷◌, eqb, drop, length}
-use Rattle.format.specs.Reading.{pick}
-use Rattle.notation.specs.Lexer.{Inside, outside, in_line, opening, in_block, starred, Skipped, past, unclosed, skip, gap}
-use Rattle.lexer.specs.declared.gap.Gap.{Gap}
-use Rattle.lexer.specs.declared.gap.Gap.TheVariants.{At, Open}
+-- What the code's places in a gap stand for, and what is promised of a gap.
+use Rattle.std.specs.Prelude.{ℕ, ◌+◌, ◌≤◌, ◌≡◌, List, drop, length, Option, Some, None, Result, Ok, Err, IfSome}
+use Rattle.notation.specs.Lexer.{Skipped, past, unclosed, skip, gap}
+use Rattle.notation.specs.Lexer as N
+use Rattle.lexer.specs.declared.gap.Inside.{Inside}
+use Rattle.lexer.specs.declared.gap.Inside.TheVariants.{Outside, InLine, Opening, InBlock, Starred}
+use Rattle.lexer.specs.declared.gap.OpenComment.{OpenComment}
 
--- Where in a gap: 0 outside a comment, 1 in a line, 2 before the `*` of an opening, 3 in a block, 4 behind a `*` in a block, whose `/*` is at the
--- front of `comment`.
-unfoldable pub inside_of : ℕ → (comment : List ℕ) → Inside
-inside_of n c =
-    pick (eqb n 0) outside (pick (eqb n 1) in_line (pick (eqb n 2) (opening c) (pick (eqb n 3) (in_block c) (starred c))))
+-- Where in a gap, a comment being the bytes from its place on.
+abbrev pub inside_of : (text : List ℕ) → Inside → N.Inside
+inside_of text Outside = N.outside
+inside_of text InLine = N.in_line
+inside_of text (Opening n) = N.opening (drop n text)
+inside_of text (InBlock n) = N.in_block (drop n text)
+inside_of text (Starred n) = N.starred (drop n text)
 
--- What a step says: 5 that the gap ends here, else where the next byte stands; 2 that a block comment begins here.
-unfoldable pub moved : ℕ → (comment here next : List ℕ) → Skipped
-moved n c here next = pick (eqb n 5) (past here) (skip (inside_of n (pick (eqb n 2) here c)) next)
+-- The place of the comment is from one place to another.
+abbrev pub CommentIn : (low high : ℕ) → Inside → Type 0
+CommentIn low high Outside = Unit
+CommentIn low high InLine = Unit
+CommentIn low high (Opening n) = (low ≤ n) × (n ≤ high)
+CommentIn low high (InBlock n) = (low ≤ n) × (n ≤ high)
+CommentIn low high (Starred n) = (low ≤ n) × (n ≤ high)
+
+-- What a step from a place says: where the next byte stands; or the gap ends here.
+abbrev pub moved : (text : List ℕ) (i : ℕ) → Option Inside → Skipped
+moved text i (Some m) = skip (inside_of text m) (drop (i + 1) text)
+moved text i None = past (drop i text)
 
 -- What is promised of a step from a place.
-pub record Stepped (text : List ℕ) (i inside r : ℕ) : Type 0 where
-  pub goes : (c : List ℕ) → skip (inside_of inside c) (drop i text) ≡ moved r c (drop i text) (drop (i + 1) text)
-  pub small : r ≤ 5
+pub record Stepped (text : List ℕ) (i : ℕ) (inside : Inside) (r : Option Inside) : Type 0 where
+  pub goes : skip (inside_of text inside) (drop i text) ≡ moved text i r
+  pub comment : (low : ℕ) → low ≤ i → CommentIn low i inside → IfSome r (CommentIn low i)
 
--- A place further on, with no byte b between.
-pub record Without (text : List ℕ) (b i r : ℕ) : Type 0 where
-  pub goes : (f : List ℕ → Skipped) → ((x : ℕ) (s : List ℕ) → (x ≡ b → ⊥) → f (x ∷ s) ≡ f s) → f (drop i text) ≡ f (drop r text)
-  pub onward : i ≤ r
-  pub inside : i ≤ length text → r ≤ length text
-
--- A place further on in a gap, from which on it is skipped as from here.
-pub record Further (text : List ℕ) (inside i r : ℕ) : Type 0 where
-  pub goes : (c : List ℕ) → skip (inside_of inside c) (drop i text) ≡ skip (inside_of inside c) (drop r text)
-  pub onward : i ≤ r
-  pub within : i ≤ length text → r ≤ length text
+-- So many bytes further on a gap is skipped as from here.
+pub record Further (rest : List ℕ) (inside : Inside) (n : ℕ) : Type 0 where
+  pub goes : (text : List ℕ) → skip (inside_of text inside) rest ≡ skip (inside_of text inside) (drop n rest)
+  pub within : n ≤ length rest
 
 -- The bytes behind a gap, or from the open `/*` on; and the place where they begin.
-unfoldable pub skipped : List ℕ → Gap → Skipped
-skipped text (At n) = past (drop n text)
-skipped text (Open n) = unclosed (drop n text)
+unfoldable pub skipped : List ℕ → Result ℕ OpenComment → Skipped
+skipped text (Ok n) = past (drop n text)
+skipped text (Err c) = unclosed (drop c.at text)
 
-unfoldable pub place : Gap → ℕ
-place (At n) = n
-place (Open n) = n
+unfoldable pub place : Result ℕ OpenComment → ℕ
+place (Ok n) = n
+place (Err c) = c.at
 
 -- What is promised of the gap at a place: it ends, or its open comment begins, there or further on, in the text.
-pub record Skips (text : List ℕ) (start : ℕ) (r : Gap) : Type 0 where
+pub record Skips (text : List ℕ) (start : ℕ) (r : Result ℕ OpenComment) : Type 0 where
   pub goes : gap (drop start text) ≡ skipped text r
   pub onward : start ≤ place r
   pub inside : start ≤ length text → place r ≤ length text

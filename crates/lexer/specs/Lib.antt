@@ -10,3 +10,5 @@ pub mod Words
 pub mod Tokens
 -- What is promised of the parts of an operator in angle brackets.
 pub mod Operators
+-- What is promised of a text's tokens, one after the other.
+pub mod Stream

@@ -1,71 +1,89 @@
 -- What the code's tokens stand for, in the terms of the notation.
-use Rattle.std.specs.Prelude.{ℕ, ◌≤◌, ◌<◌, ◌≡◌, List, [], ◌∷◌, eqb, drop, length}
-use Rattle.format.specs.Reading.{pick}
-use Rattle.notation.specs.Tree.{Leaf, any, quoted, call, query, match, is, isa, exists, if, Suffix, option, star, plus, Opener, def, block, local, on, and, not}
+use Rattle.std.specs.Prelude.{ℕ, ◌≤◌, ◌<◌, ◌≡◌, Bool, true, false, List, [], ◌∷◌, drop, length}
+use Rattle.notation.specs.Tree as Tree
+use Rattle.notation.specs.Tree.{any, quoted, call, query, match, is, isa, exists, if, option, star, plus, def, block, local, on, and, not}
 use Rattle.notation.specs.Token.{head, leaf, opens, closes, left, right, slash, before, after, bad, Lexeme}
 use Rattle.notation.specs.Token as N
 use Rattle.notation.specs.Lexer.{lexemes}
 use Rattle.notation.specs.At.{name_at, quoted_of, parts_of, class_of}
 use Rattle.notation.specs.Places.{name_in}
 use Rattle.lexer.specs.declared.token.Token.{Token}
+use Rattle.lexer.specs.declared.token.Kind.{Kind}
+use Rattle.lexer.specs.declared.token.Leaf.{Leaf}
+use Rattle.lexer.specs.declared.token.Opener.{Opener}
+use Rattle.lexer.specs.declared.token.Suffix.{Suffix}
 
--- What holds no expression, what opens an operator, and a suffix, by the number of the symbol.
-unfoldable pub leaf_at : List ℕ → Token → Leaf
-leaf_at text t =
-    pick (eqb t.symbol 1) any
-    (pick (eqb t.symbol 2) (quoted (quoted_of (drop t.start text)))
-    (pick (eqb t.symbol 3) (class_of (parts_of (drop t.start text)))
-    (pick (eqb t.symbol 4) (call (name_at text t.name))
-    (pick (eqb t.symbol 5) (query match (name_at text t.name))
-    (pick (eqb t.symbol 6) (query is (name_at text t.name))
-    (pick (eqb t.symbol 7) (query isa (name_at text t.name))
-    (pick (eqb t.symbol 8) (query exists (name_at text t.name)) (if (name_at text t.name) t.truth))))))))
+-- What holds no expression, what opens an operator, and a suffix, of a token.
+unfoldable pub leaf_at : List ℕ → Token → Leaf → Tree.Leaf
+leaf_at text t Leaf.Any = any
+leaf_at text t Leaf.Quoted = quoted (quoted_of (drop t.start text))
+leaf_at text t Leaf.Class = class_of (parts_of (drop t.start text))
+leaf_at text t Leaf.Call = call (name_at text t.name)
+leaf_at text t Leaf.Match = query match (name_at text t.name)
+leaf_at text t Leaf.Is = query is (name_at text t.name)
+leaf_at text t Leaf.Isa = query isa (name_at text t.name)
+leaf_at text t Leaf.Exists = query exists (name_at text t.name)
+leaf_at text t (Leaf.If w) = if (name_at text t.name) w
 
-unfoldable pub opener_at : List ℕ → Token → Opener
-opener_at text t =
-    pick (eqb t.symbol 10) (def (name_at text t.name))
-    (pick (eqb t.symbol 11) (block (name_at text t.name))
-    (pick (eqb t.symbol 12) (local (name_at text t.name)) (on (name_at text t.name) t.truth)))
+unfoldable pub opener_at : List ℕ → Token → Opener → Tree.Opener
+opener_at text t Opener.Def = def (name_at text t.name)
+opener_at text t Opener.Block = block (name_at text t.name)
+opener_at text t Opener.Local = local (name_at text t.name)
+opener_at text t (Opener.On w) = on (name_at text t.name) w
 
-unfoldable pub suffix_of : ℕ → Suffix
-suffix_of n = pick (eqb n 17) option (pick (eqb n 18) star plus)
+unfoldable pub suffix_of : Suffix → Tree.Suffix
+suffix_of Suffix.Option = option
+suffix_of Suffix.Star = star
+suffix_of Suffix.Plus = plus
 
 -- The token by its kind.
-unfoldable pub meant : List ℕ → Token → N.Token
-meant text t =
-    pick (eqb t.kind 1) (head (name_at text t.name))
-    (pick (eqb t.kind 2) closes
-    (pick (eqb t.kind 3) right
-    (pick (eqb t.kind 4) slash
-    (pick (eqb t.kind 5) (leaf (leaf_at text t))
-    (pick (eqb t.kind 6) (opens (opener_at text t))
-    (pick (eqb t.kind 7) left
-    (pick (eqb t.kind 8) (before and)
-    (pick (eqb t.kind 9) (before not) (pick (eqb t.kind 10) (after (suffix_of t.symbol)) bad)))))))))
+unfoldable pub meant_by : List ℕ → Token → Kind → N.Token
+meant_by text t Kind.End = bad
+meant_by text t Kind.Head = head (name_at text t.name)
+meant_by text t Kind.Closes = closes
+meant_by text t Kind.Right = right
+meant_by text t Kind.Slash = slash
+meant_by text t (Kind.Leaf l) = leaf (leaf_at text t l)
+meant_by text t (Kind.Opens o) = opens (opener_at text t o)
+meant_by text t Kind.Left = left
+meant_by text t Kind.And = before and
+meant_by text t Kind.Not = before not
+meant_by text t (Kind.After s) = after (suffix_of s)
+meant_by text t Kind.Bad = bad
+
+abbrev pub meant : List ℕ → Token → N.Token
+meant text t = meant_by text t t.kind
 
 abbrev pub placed : List ℕ → Token → Lexeme
 placed text t = record { here = drop t.start text; token = meant text t }
 
 -- The lexemes from a token on: none at the text's end, and none behind what is no token.
-unfoldable pub ahead : List ℕ → Token → List Lexeme
-ahead text t =
-    pick (eqb t.kind 0) [] (placed text t ∷ pick (eqb t.kind 11) [] (lexemes (drop t.next text)))
+unfoldable pub ahead_by : List ℕ → Token → Kind → List Lexeme
+ahead_by text t Kind.End = []
+ahead_by text t Kind.Bad = placed text t ∷ []
+ahead_by text t k = placed text t ∷ lexemes (drop t.next text)
 
--- The numbers of a token are of those that stand for something: a leaf's symbol is 1 to 9, an opener's 10 to 13, a suffix's 17 to 19.
-abbrev pub Numbers : (kind symbol : ℕ) → Type 0
-Numbers k s =
-    (k ≤ 11) × (k ≡ 5 → (1 ≤ s) × (s ≤ 9)) × (k ≡ 6 → (10 ≤ s) × (s ≤ 13)) × (k ≡ 10 → (17 ≤ s) × (s ≤ 19))
+abbrev pub ahead : List ℕ → Token → List Lexeme
+ahead text t = ahead_by text t t.kind
+
+-- No token is there: the text ends, or what stands there is none.
+abbrev pub stops : Kind → Bool
+stops Kind.End = true
+stops Kind.Bad = true
+stops k = false
+
+abbrev pub IsToken : Kind → Type 0
+IsToken k = stops k ≡ false
 
 -- What is promised of the token at a place: it is the front of the lexemes there; it begins there or further on, in the text, and a byte at
 -- least belongs to it, where it is one; its name is the one that stands in it; a class has parts.
 pub record Lexed (text : List ℕ) (at : ℕ) (t : Token) : Type 0 where
   pub goes : lexemes (drop at text) ≡ ahead text t
-  pub numbers : Numbers t.kind t.symbol
   pub inside : t.start ≤ length text
   pub onward : at ≤ length text → at ≤ t.start
-  pub longer : 1 ≤ t.kind → t.kind ≤ 10 → t.start < t.next
-  pub within : 1 ≤ t.kind → t.kind ≤ 10 → t.next ≤ length text
-  pub ends : t.kind ≡ 0 → t.start ≡ length text
-  pub named : 1 ≤ t.kind → t.kind ≤ 10 → drop t.name text ≡ name_in (drop t.start text)
-  pub name_inside : 1 ≤ t.kind → t.kind ≤ 10 → t.name ≤ length text
-  pub parted : t.kind ≡ 5 → t.symbol ≡ 3 → parts_of (drop t.start text) ≡ [] → ⊥
+  pub longer : IsToken t.kind → t.start < t.next
+  pub within : IsToken t.kind → t.next ≤ length text
+  pub ends : t.kind ≡ Kind.End → t.start ≡ length text
+  pub named : IsToken t.kind → drop t.name text ≡ name_in (drop t.start text)
+  pub name_inside : IsToken t.kind → t.name ≤ length text
+  pub parted : t.kind ≡ Kind.Leaf Leaf.Class → parts_of (drop t.start text) ≡ [] → ⊥

@@ -1,132 +1,102 @@
 // A text's gaps: blanks and comments.
-ghost use Rattle.std.specs.Prelude.{◌≡◌, ◌+◌, ◌<◌, length};
-ghost use Rattle.notation.specs.Bytes.{blank};
-ghost use Rattle.lexer.specs.Gaps.{Stepped, Skips, Without, Further};
+ghost use Rattle.std.specs.Prelude.{◌≡◌, ◌==◌, ◌<◌, length};
+ghost use Rattle.std.specs.List.{position};
+ghost use Rattle.lexer.specs.declared.gap.Inside.TheVariants.{Outside};
+ghost use Rattle.lexer.specs.Gaps.{Stepped, Further, Skips};
 
-// The place behind a gap; or the place of the `/*` that nothing closes.
-#[derive(Clone, Copy)]
-pub enum Gap {
-    At(usize),
-    Open(usize),
+// A comment that nothing closes, by the place of its `/*`.
+#[derive(Clone, Copy, PartialEq, Eq, Debug)]
+pub struct OpenComment {
+    pub at: usize,
 }
 
-fn is_blank(b: u8) -> bool
-    ensures { result ≡ blank b }
-{
-    if b == b' ' {
-        return true;
-    }
-    if b == b'\t' {
-        return true;
-    }
-    if b == b'\n' {
-        return true;
-    }
-    b == b'\r'
+// Where in a gap one stands: outside a comment, in a line, before the `*` that opens a block, in a block, behind a `*` in a block. What is in a block knows
+// the place of its `/*`.
+#[derive(Clone, Copy, PartialEq, Eq, Debug)]
+pub enum Inside {
+    Outside,
+    InLine,
+    Opening(usize),
+    InBlock(usize),
+    Starred(usize),
 }
 
-// What the byte at a place outside a comment begins: 0 it is a blank, 1 a line comment, 2 a block comment, 5 none of these.
-pub(crate) fn front(text: &[u8], i: usize) -> u8
+// Where the byte behind a place outside a comment stands; none where the gap ends here.
+#[tactic(auto, using(crate::proofs::PlaceLaws::at_place, crate::proofs::PlaceLaws::over), unfolding(notation::specs::Lexer::skip, notation::specs::Lexer::front, notation::specs::Lexer::second))]
+pub(crate) fn front(text: &[u8], i: usize) -> Option<Inside>
     requires { i < length text.now }
-    ensures { Stepped text.now i 0 result }
+    ensures { Stepped text.now i Outside result }
 {
-    let b = text[i];
-    if is_blank(b) {
-        return 0;
+    match text[i] {
+        b' ' | b'\t' | b'\n' | b'\r' => Some(Inside::Outside),
+        b'/' => match *text.get(i + 1)? {
+            b'/' => Some(Inside::InLine),
+            b'*' => Some(Inside::Opening(i)),
+            _ => None,
+        },
+        _ => None,
     }
-    if b != b'/' {
-        return 5;
-    }
-    if text.len() <= i + 1 {
-        return 5;
-    }
-    let c = text[i + 1];
-    if c == b'/' {
-        return 1;
-    }
-    if c == b'*' {
-        return 2;
-    }
-    5
 }
 
-// Where the byte behind a place of a gap stands, by where that place does; 5 if the gap ends there.
-fn step(text: &[u8], i: usize, inside: u8) -> u8
-    requires { (i < length text.now) × (inside < 5) }
+// Where the byte behind a place of a gap stands, by where that place does; none where the gap ends here.
+#[tactic(auto, using(crate::proofs::PlaceLaws::at_place), unfolding(notation::specs::Lexer::skip, notation::specs::Lexer::block_on, notation::specs::Lexer::star_on))]
+fn step(text: &[u8], i: usize, inside: Inside) -> Option<Inside>
+    requires { i < length text.now }
     ensures { Stepped text.now i inside result }
 {
-    if inside == 0 {
-        return front(text, i);
-    }
     let b = text[i];
-    if inside == 1 {
-        if b == b'\n' {
-            return 0;
+    match inside {
+        Inside::Outside => front(text, i),
+        Inside::InLine if b == b'\n' => Some(Inside::Outside),
+        Inside::InLine => Some(inside),
+        Inside::Opening(comment) => Some(Inside::InBlock(comment)),
+        Inside::Starred(_) if b == b'/' => Some(Inside::Outside),
+        Inside::InBlock(comment) | Inside::Starred(comment) => {
+            if b == b'*' {
+                Some(Inside::Starred(comment))
+            } else {
+                Some(Inside::InBlock(comment))
+            }
         }
-        return 1;
     }
-    if inside == 2 {
-        return 3;
-    }
-    if b == b'*' {
-        return 4;
-    }
-    if inside == 3 {
-        return 3;
-    }
-    if b == b'/' {
-        return 0;
-    }
-    3
 }
 
-// The next place at which a byte stands, or the text's end.
-fn find(text: &[u8], from: usize, b: u8) -> usize
-    ensures { Without text.now b from result }
+// Where the first byte is that is this one.
+fn find(rest: &[u8], b: u8) -> Option<usize>
+    ensures { result ≡ position (λ x. x == b) rest.now }
 {
-    let mut i = from;
-    while i < text.len() {
-        if text[i] == b {
-            return i;
-        }
-        i += 1;
-    }
-    i
+    rest.iter().position(|x| *x == b)
 }
 
-// How far one comes at once from a place of a gap: in a line to its end, in a block to the next `*`.
-fn further(text: &[u8], i: usize, inside: u8) -> usize
-    ensures { Further text.now inside i result }
+// How many bytes are passed at once: in a line up to its end, in a block up to the next `*`.
+#[tactic(auto, using(crate::proofs::GapLaws::line_further, crate::proofs::GapLaws::block_further))]
+fn passed(rest: &[u8], inside: Inside) -> usize
+    ensures { Further rest.now inside result }
 {
-    if inside == 1 {
-        return find(text, i, b'\n');
+    match inside {
+        Inside::InLine => find(rest, b'\n').unwrap_or(rest.len()),
+        Inside::InBlock(_) => find(rest, b'*').unwrap_or(rest.len()),
+        _ => 0,
     }
-    if inside == 3 {
-        return find(text, i, b'*');
-    }
-    i
 }
 
 // The place behind the gap that begins at a place.
-pub fn gap_from(text: &[u8], start: usize) -> Gap
+#[tactic(auto, using(crate::proofs::PlaceLaws::over), unfolding(notation::specs::Lexer::skip, crate::specs::Gaps::skipped, crate::specs::Gaps::place))]
+pub fn gap_from(text: &[u8], start: usize) -> Result<usize, OpenComment>
     ensures { Skips text.now start result }
 {
+    // The place is stepped by hand: a step passes one byte or many.
     let mut i = start;
-    let mut inside: u8 = 0;
-    let mut comment = start;
+    let mut inside = Inside::Outside;
     while i < text.len() {
-        let next = step(text, i, inside);
-        if next == 5 {
-            return Gap::At(i);
-        }
-        if next == 2 {
-            comment = i;
-        }
+        let Some(next) = step(text, i, inside) else {
+            return Ok(i);
+        };
         inside = next;
-        i = further(text, i + 1, next);
+        i = i + 1 + passed(&text[i + 1..], next);
     }
-    if inside < 2 {
-        return Gap::At(i);
+    match inside {
+        Inside::Outside | Inside::InLine => Ok(i),
+        Inside::Opening(at) | Inside::InBlock(at) | Inside::Starred(at) => Err(OpenComment { at }),
     }
-    Gap::Open(comment)
 }

@@ -7,4 +7,5 @@ pub mod gap;
 pub mod name;
 mod operator;
 pub mod token;
+pub mod tokens;
 mod word;

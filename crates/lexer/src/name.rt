@@ -1,84 +1,60 @@
 // A text's names: a letter, and then letters and digits as far as they go. `_` is a letter.
 ghost use Rattle.std.specs.Prelude.{◌≡◌, ◌+◌, ◌<◌, ◌≤◌, drop, length};
+ghost use Rattle.std.specs.List.{take_while};
 ghost use Rattle.notation.specs.Bytes.{letter, name_byte};
-ghost use Rattle.lexer.specs.Names.{within, goes_on, NameEnds, Finds};
+ghost use Rattle.lexer.specs.Names.{NameEnds, Finds};
 
-use crate::gap::{Gap, gap_from};
+use crate::gap::gap_from;
 
-// Where the name behind a gap begins and the place behind it; or none stands there.
+// Where the name behind a gap begins and the place behind it.
 #[derive(Clone, Copy)]
-pub(crate) enum Name {
-    At { start: usize, next: usize },
-    Nothing,
-}
-
-fn between(lo: u8, hi: u8, b: u8) -> bool
-    ensures { result ≡ within lo hi b }
-{
-    lo <= b && b <= hi
+pub(crate) struct Name {
+    pub start: usize,
+    pub next: usize,
 }
 
 pub(crate) fn is_letter(b: u8) -> bool
     ensures { result ≡ letter b }
 {
-    if between(b'A', b'Z', b) {
-        return true;
-    }
-    if between(b'a', b'z', b) {
-        return true;
-    }
-    b == b'_'
+    matches!(b, b'A'..=b'Z' | b'a'..=b'z' | b'_')
 }
 
 // Whether a byte is a name's.
 pub fn is_name(b: u8) -> bool
     ensures { result ≡ name_byte b }
 {
-    if is_letter(b) {
-        return true;
-    }
-    between(b'0', b'9', b)
+    is_letter(b) || matches!(b, b'0'..=b'9')
 }
 
-// Whether a byte of a name stands at a place.
-pub(crate) fn in_name(text: &[u8], i: usize) -> bool
-    ensures { result ≡ goes_on (drop i text.now) }
+// How many bytes of a name are in front.
+fn name_length(rest: &[u8]) -> usize
+    ensures { result ≡ length (take_while name_byte rest.now) }
 {
-    if text.len() <= i {
-        return false;
-    }
-    is_name(text[i])
+    rest.iter().take_while(|b| is_name(**b)).count()
 }
 
 // The place behind the bytes of a name.
+#[tactic(auto, using(crate::proofs::NameLaws::behind_is))]
 pub fn name_end(text: &[u8], from: usize) -> usize
     ensures { NameEnds text.now from result }
 {
-    let mut i = from;
-    while in_name(text, i) {
-        i += 1;
+    match text.get(from..) {
+        Some(rest) => from + name_length(rest),
+        None => from,
     }
-    i
 }
 
 // The name behind a gap.
-pub(crate) fn name_from(text: &[u8], at: usize) -> Name
+pub(crate) fn name_from(text: &[u8], at: usize) -> Option<Name>
     requires { at ≤ length text.now }
     ensures { Finds text.now at result }
 {
-    match gap_from(text, at) {
-        Gap::Open(_) => Name::Nothing,
-        Gap::At(i) => {
-            if text.len() <= i {
-                return Name::Nothing;
-            }
-            if !is_letter(text[i]) {
-                return Name::Nothing;
-            }
-            Name::At {
-                start: i,
-                next: name_end(text, i + 1),
-            }
-        }
+    let start = gap_from(text, at).ok()?;
+    if !is_letter(*text.get(start)?) {
+        return None;
     }
+    Some(Name {
+        start,
+        next: name_end(text, start + 1),
+    })
 }

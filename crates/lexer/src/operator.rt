@@ -1,124 +1,87 @@
 // Operators in angle brackets.
 ghost use Rattle.std.specs.Prelude.{◌≤◌, drop, length};
 ghost use Rattle.notation.specs.Lexer.{truth};
-ghost use Rattle.lexer.specs.Operators.{truthed, Sees, Closes, OperatorAt, AngleAt};
-ghost use Rattle.lexer.specs.Tokens.{Begins};
+ghost use Rattle.lexer.specs.Operators.{asked, Sees, Closes, OperatorAt, AngleAt};
+ghost use Rattle.lexer.specs.Tokens.{Stands};
 
-use crate::gap::{Gap, gap_from};
+use crate::gap::gap_from;
 use crate::name::{Name, name_from};
-use crate::token::{Token, made, no_token};
-use crate::word::word_at;
-use chars::written::End;
+use crate::token::{Kind, Leaf, Opener, Token, is_at};
+use crate::word::{Word, word_of};
 
-// Whether a condition is asked to hold, and the place behind that; or a comment before it is open.
-#[derive(Clone, Copy)]
-enum Truth {
-    Is { truth: bool, next: usize },
-    Open,
-}
-
-// A `!` behind a gap asks that a condition does not hold.
-fn truth_from(text: &[u8], at: usize) -> Truth
+// Whether a condition is asked to hold, and the place behind that: a `!` behind a gap asks that it does not.
+#[tactic(auto, using(crate::proofs::SignLaws::truth_open))]
+fn truth_from(text: &[u8], at: usize) -> Option<(bool, usize)>
     requires { at ≤ length text.now }
     ensures { Sees (truth (drop at text.now)) text.now at result }
 {
-    match gap_from(text, at) {
-        Gap::Open(_) => Truth::Open,
-        Gap::At(i) => {
-            if text.len() <= i {
-                return Truth::Is {
-                    truth: true,
-                    next: i,
-                };
-            }
-            if text[i] == b'!' {
-                return Truth::Is {
-                    truth: false,
-                    next: i + 1,
-                };
-            }
-            Truth::Is {
-                truth: true,
-                next: i,
-            }
-        }
+    let i = gap_from(text, at).ok()?;
+    if is_at(text, i, b'!') {
+        return Some((false, i + 1));
     }
+    Some((true, i))
 }
 
-// Only the operators of a condition have a `!`.
-fn truth_of(text: &[u8], symbol: u8, at: usize) -> Truth
+// What the operator of a word is, and the place behind that: only those of a condition have a `!`.
+fn kind_from(text: &[u8], word: Word, at: usize) -> Option<(Kind, usize)>
     requires { at ≤ length text.now }
-    ensures { Sees (truthed symbol (drop at text.now)) text.now at result }
+    ensures { Sees (asked word (drop at text.now)) text.now at result }
 {
-    if symbol == 9 {
-        return truth_from(text, at);
-    }
-    if symbol == 13 {
-        return truth_from(text, at);
-    }
-    Truth::Is {
-        truth: true,
-        next: at,
+    match word {
+        Word::Asks(leaf) => Some((Kind::Leaf(leaf), at)),
+        Word::Opens(opener) => Some((Kind::Opens(opener), at)),
+        Word::Ifs => {
+            let (truth, next) = truth_from(text, at)?;
+            Some((Kind::Leaf(Leaf::If(truth)), next))
+        }
+        Word::Ons => {
+            let (truth, next) = truth_from(text, at)?;
+            Some((Kind::Opens(Opener::On(truth)), next))
+        }
     }
 }
 
 // Where the `>` behind a gap ends.
-fn close_from(text: &[u8], at: usize) -> End
+#[tactic(auto, using(crate::proofs::SignLaws::close_open, crate::proofs::SignLaws::close_other))]
+fn close_from(text: &[u8], at: usize) -> Option<usize>
     requires { at ≤ length text.now }
     ensures { Closes text.now at result }
 {
-    match gap_from(text, at) {
-        Gap::Open(_) => End::Open,
-        Gap::At(i) => {
-            if text.len() <= i {
-                return End::Open;
-            }
-            if text[i] == b'>' {
-                return End::Behind(i + 1);
-            }
-            End::Open
-        }
+    let i = gap_from(text, at).ok()?;
+    if is_at(text, i, b'>') {
+        return Some(i + 1);
     }
+    None
 }
 
-// The operator of a symbol, from behind its word on. No word names a symbol over 13.
-fn behind_word(text: &[u8], start: usize, symbol: u8, at: usize) -> Token
-    requires { OperatorAt text.now start symbol at }
-    ensures { Begins text.now start result }
+// The operator of a word, from behind it on.
+fn behind_word(text: &[u8], start: usize, word: Word, at: usize) -> Option<Token>
+    requires { OperatorAt text.now start word at }
+    ensures { Stands text.now start result }
 {
-    if 13 < symbol {
-        return no_token(start);
-    }
-    match truth_of(text, symbol, at) {
-        Truth::Open => no_token(start),
-        Truth::Is { truth, next } => match name_from(text, next) {
-            Name::Nothing => no_token(start),
-            Name::At {
-                start: name,
-                next: end,
-            } => {
-                if 10 <= symbol {
-                    return made(6, symbol, truth, start, name, end);
-                }
-                match close_from(text, end) {
-                    End::Open => no_token(start),
-                    End::Behind(close) => made(5, symbol, truth, start, name, close),
-                }
-            }
-        },
-    }
+    let (kind, behind) = kind_from(text, word, at)?;
+    let Name {
+        start: name,
+        next: end,
+    } = name_from(text, behind)?;
+    let next = match word {
+        Word::Asks(_) | Word::Ifs => close_from(text, end)?,
+        Word::Opens(_) | Word::Ons => end,
+    };
+    Some(Token {
+        kind,
+        start,
+        name,
+        next,
+    })
 }
 
-// The operator whose `<` stands at a place.
-pub(crate) fn operator(text: &[u8], start: usize) -> Token
+// The operator whose `<` stands at a place, if one does.
+pub(crate) fn operator(text: &[u8], start: usize) -> Option<Token>
     requires { AngleAt text.now start }
-    ensures { Begins text.now start result }
+    ensures { Stands text.now start result }
 {
-    match name_from(text, start + 1) {
-        Name::Nothing => no_token(start),
-        Name::At {
-            start: word,
-            next: end,
-        } => behind_word(text, start, word_at(text, word), end),
-    }
+    let Name { start: from, next } = name_from(text, start + 1)?;
+    let word = word_of(&text[from..next])?;
+    behind_word(text, start, word, next)
 }

@@ -9,7 +9,10 @@ use Rattle.meaning.specs.Outcome.{Outcome as Meant, pass, fail, part, among, pas
 use Rattle.meaning.specs.Rules.{symbol}
 use Rattle.parts.specs.declared.outcome.Outcome.{Outcome}
 use Rattle.parts.specs.declared.outcome.Outcome.TheVariants.{Passed, Failed, Refused}
-use Rattle.parts.specs.Packed.{opened_of}
+use Rattle.parts.specs.declared.outcome.Stop.{Stop}
+use Rattle.parts.specs.declared.outcome.Stop.TheVariants.{Room}
+use Rattle.parts.specs.declared.outcome.Packed.{Packed}
+use Rattle.parts.specs.Packed.{number_of, opened_of}
 use Rattle.parts.specs.Slots.{symbols, putting, Below}
 use Rattle.parts.specs.SlotsLaws.{symbols_length, putting_length, putting_other, putting_more}
 use Rattle.kinds.specs.Turned.{given_of, negated_of, restored_of, compared_of, defined_of, defined_in, ClosedOf}
@@ -18,11 +21,11 @@ use Rattle.machine.specs.Told.{Told, came, stopped, and_then, or_else, become}
 use Rattle.machine.specs.Ready.{read_back, Done}
 use Rattle.machine.specs.ReadyLaws.{kept_below, below_then, below_same}
 
-pub done_as : {held : ℕ} {before after : List ℕ} {r : ℕ} {T U : Told} → Done held before after r T → T ≡ U → Done held before after r U
+pub done_as : {held : ℕ} {before after : List ℕ} {r : Packed} {T U : Told} → Done held before after r T → T ≡ U → Done held before after r U
 done_as d e = record { says = d.says ∙ e; frame = d.frame }
 
 -- A test that nothing stands inside of.
-pub done_given : {held : ℕ} {slots : List ℕ} (ok : Bool) (at s d : ℕ) {q : ℕ} → opened_of q ≡ given_of ok at held s d
+pub done_given : {held : ℕ} {slots : List ℕ} (ok : Bool) (at s d : ℕ) {q : Packed} → opened_of q ≡ given_of ok at held s d
     → Done held slots slots q (came (pass_if ok at (symbols held slots)) s d)
 unfolding pass_if
 done_given {held} {slots} ok at s d e =
@@ -32,17 +35,17 @@ done_given {held} {slots} ok at s d e =
     go true = refl
     go false = refl
 
-pub done_passed : {held : ℕ} {slots : List ℕ} (at s d : ℕ) {q : ℕ} → opened_of q ≡ Passed at held s d
+pub done_passed : {held : ℕ} {slots : List ℕ} (at s d : ℕ) {q : Packed} → opened_of q ≡ Passed at held s d
     → Done held slots slots q (came (pass at (symbols held slots)) s d)
 done_passed {held} {slots} at s d e = record { says = ap (λ o. read_back o slots) e; frame = below_same held slots }
 
-pub done_failed : {held : ℕ} {slots : List ℕ} (s d : ℕ) {q : ℕ} → opened_of q ≡ Failed s d → Done held slots slots q (came fail s d)
+pub done_failed : {held : ℕ} {slots : List ℕ} (s d : ℕ) {q : Packed} → opened_of q ≡ Failed s d → Done held slots slots q (came fail s d)
 done_failed {held} {slots} s d e = record { says = ap (λ o. read_back o slots) e; frame = below_same held slots }
 
-pub done_refused : {held : ℕ} {slots : List ℕ} (n p s d : ℕ) {q : ℕ} → opened_of q ≡ Refused n p s d → Done held slots slots q (stopped n p s d)
+pub done_refused : {held : ℕ} {slots : List ℕ} (n : Stop) (p s d : ℕ) {q : Packed} → opened_of q ≡ Refused n p s d → Done held slots slots q (stopped (number_of n) p s d)
 done_refused {held} {slots} n p s d e = record { says = ap (λ o. read_back o slots) e; frame = below_same held slots }
 
-module _ {held : ℕ} {before after : List ℕ} {r : ℕ} {T : Told} (done : Done held before after r T) where
+module _ {held : ℕ} {before after : List ℕ} {r : Packed} {T : Told} (done : Done held before after r T) where
   -- ## Sequence and Choice
 
   pub then_stop : (k : ℕ → Symbols → ℕ → ℕ → Told) → Stops (opened_of r) → Done held before after r (and_then T k)
@@ -52,7 +55,7 @@ module _ {held : ℕ} {before after : List ℕ} {r : ℕ} {T : Told} (done : Don
       go _ at_failed = refl
       go _ at_refused = refl
 
-  pub then_go : (k : ℕ → Symbols → ℕ → ℕ → Told) {a h s d : ℕ} → opened_of r ≡ Passed a h s d → held ≤ h → {end : List ℕ} {q : ℕ}
+  pub then_go : (k : ℕ → Symbols → ℕ → ℕ → Told) {a h s d : ℕ} → opened_of r ≡ Passed a h s d → held ≤ h → {end : List ℕ} {q : Packed}
       → Done h after end q (k a (symbols h after) s d) → Done held before end q (and_then T k)
   then_go k e l n = record {
     says = n.says ∙ ap (λ T. and_then T k) (ap (λ o. read_back o after) (sym e) ∙ done.says);
@@ -66,7 +69,7 @@ module _ {held : ℕ} {before after : List ℕ} {r : ℕ} {T : Told} (done : Don
       go _ on_passed = refl
       go _ on_refused = refl
 
-  pub else_go : (k : Symbols → ℕ → ℕ → Told) {s d : ℕ} → opened_of r ≡ Failed s d → {end : List ℕ} {q : ℕ}
+  pub else_go : (k : Symbols → ℕ → ℕ → Told) {s d : ℕ} → opened_of r ≡ Failed s d → {end : List ℕ} {q : Packed}
       → Done held after end q (k (symbols held after) s d) → Done held before end q (or_else T (k (symbols held before)))
   else_go k {s} {d} e n = record {
     says =
@@ -79,7 +82,7 @@ module _ {held : ℕ} {before after : List ℕ} {r : ℕ} {T : Told} (done : Don
 
   -- One function on outcomes against another.
   turned : (f : Outcome → Outcome) (k : Meant → Meant) → ((o : Outcome) → read_back (f o) after ≡ become k (read_back o after))
-      → {q : ℕ} → opened_of q ≡ f (opened_of r) → Done held before after q (become k T)
+      → {q : Packed} → opened_of q ≡ f (opened_of r) → Done held before after q (become k T)
   turned f k h e = record { says = ap (λ o. read_back o after) e ∙ h (opened_of r) ∙ ap (become k) done.says; frame = done.frame }
 
   abbrev σ : Symbols
@@ -88,7 +91,7 @@ module _ {held : ℕ} {before after : List ℕ} {r : ℕ} {T : Told} (done : Don
   back : symbols held after ≡ σ
   back = kept_below done.frame
 
-  pub done_not : (at : ℕ) {q : ℕ} → opened_of q ≡ negated_of at held (opened_of r) → Done held before after q (become (swap at σ) T)
+  pub done_not : (at : ℕ) {q : Packed} → opened_of q ≡ negated_of at held (opened_of r) → Done held before after q (become (swap at σ) T)
   unfolding swap
   done_not at = turned (negated_of at held) (swap at σ) go
     where
@@ -97,7 +100,7 @@ module _ {held : ℕ} {before after : List ℕ} {r : ℕ} {T : Told} (done : Don
       go (Failed s d) = ap (λ τ. came (pass at τ) s d) back
       go (Refused n p s d) = refl
 
-  pub done_on : {q : ℕ} → opened_of q ≡ restored_of held (opened_of r) → Done held before after q (become (restored σ) T)
+  pub done_on : {q : Packed} → opened_of q ≡ restored_of held (opened_of r) → Done held before after q (become (restored σ) T)
   unfolding restored
   done_on = turned (restored_of held) (restored σ) go
     where
@@ -107,7 +110,7 @@ module _ {held : ℕ} {before after : List ℕ} {r : ℕ} {T : Told} (done : Don
       go (Refused n p s d) = refl
 
   pub done_named : (x : List ℕ) (at : ℕ) (list : Symbols) (test : ℕ → Bool) → ((end : ℕ) → test end ≡ among x (part x at end) list)
-      → {q : ℕ} → opened_of q ≡ compared_of test held (opened_of r) → Done held before after q (become (compared x at σ list) T)
+      → {q : Packed} → opened_of q ≡ compared_of test held (opened_of r) → Done held before after q (become (compared x at σ list) T)
   unfolding pass_if compared
   done_named x at list test same = turned (compared_of test held) (compared x at σ list) go
     where
@@ -124,7 +127,7 @@ module _ {held : ℕ} {before after : List ℕ} {r : ℕ} {T : Told} (done : Don
   framed f = record { long = ap length f ∙ done.frame.long; same = λ k m. ap (λ l. get_or l k 0) f ∙ done.frame.same k m }
 
   -- A name is stored where there is room for it.
-  pub done_def : (room table at : ℕ) → room * 3 ≤ length before → {end : List ℕ} {q : ℕ}
+  pub done_def : (room table at : ℕ) → room * 3 ≤ length before → {end : List ℕ} {q : Packed}
       → opened_of q ≡ defined_of room table at held (opened_of r) → end ≡ defined_in room table at held (opened_of r) after
       → Done held before end q (and_then T (λ a τ s d. pick (ltb (length σ) room) (came (pass a (σ ++ (symbol table at a ∷ []))) s d) (stopped 14 at s d)))
   done_def room table at lent {end} {q} e f = go (opened_of r) done.says e f
@@ -132,7 +135,7 @@ module _ {held : ℕ} {before after : List ℕ} {r : ℕ} {T : Told} (done : Don
       next : ℕ → Symbols → ℕ → ℕ → Told
       next a τ s d = pick (ltb (length σ) room) (came (pass a (σ ++ (symbol table at a ∷ []))) s d) (stopped 14 at s d)
 
-      stored : (a s d : ℕ) (b : Bool) → ltb held room ≡ b → opened_of q ≡ pick b (Passed a (held + 1) s d) (Refused 14 at s d)
+      stored : (a s d : ℕ) (b : Bool) → ltb held room ≡ b → opened_of q ≡ pick b (Passed a (held + 1) s d) (Refused Room at s d)
           → end ≡ pick b (putting after held table at a) after
           → (read_back (opened_of q) end ≡ pick b (came (pass a (σ ++ (symbol table at a ∷ []))) s d) (stopped 14 at s d)) × Below held before end
       stored a s d true l e f =
@@ -173,7 +176,7 @@ module _ {held : ℕ} {before after : List ℕ} {r : ℕ} {T : Told} (done : Don
       }
 
   -- A scope is closed.
-  pub done_closed : (table : ℕ) {end : List ℕ} {q : ℕ} → ClosedOf table held (opened_of r) after end (opened_of q)
+  pub done_closed : (table : ℕ) {end : List ℕ} {q : Packed} → ClosedOf table held (opened_of r) after end (opened_of q)
       → Done held before end q (become (closed table σ) T)
   unfolding closed
   done_closed table {end} {q} = go (opened_of r) done.says

@@ -1,5 +1,5 @@
 -- A node that was entered: what may be asked of the nodes inside it, and what is then said of it. One law a kind.
-use Rattle.std.specs.Prelude.{ℕ, zero, suc, ◌+◌, ◌-◌, ◌≤◌, ◌<◌, max, ◌≡◌, refl, Bool, true, false, List, [], ◌∷◌, ◌++◌, reverse, eqb, leb, ltb, take, drop, get_or}
+use Rattle.std.specs.Prelude.{ℕ, zero, suc, ◌+◌, ◌-◌, ◌≤◌, ◌<◌, max, ◌≡◌, refl, Option, None, Some, is_some, Bool, true, false, List, [], ◌∷◌, ◌++◌, reverse, eqb, leb, ltb, take, drop, get_or}
 use Rattle.std.proofs.Math.Path.{ap}
 use Rattle.std.proofs.Common.{sym, ◌∙◌, subst, arith, length-take, length-drop, drop_of_length-le, drop-cons, le-ltb, lt-ltb, ltb-true, ltb-false, eqb-true, le-leb, leb-true}
 use Rattle.std.specs.Bool.{beq}
@@ -11,6 +11,7 @@ use Rattle.grammar.specs.Sound.{Fits, Bytes}
 use Rattle.image.specs.Node.{node_of, expr_of, span_of}
 use Rattle.format.specs.Reading.{pick}
 use Rattle.image.specs.declared.node.Node.{Node}
+use Rattle.image.specs.declared.node.Span.{Span}
 use Rattle.image.specs.declared.node.Node.TheVariants.{Empty, Byte, Range, Any, Text, Sequence, Choice, Star, Not, Call, Def, Match, Is, Isa, Exists, Block, Local, If, On}
 use Rattle.meaning.specs.State.{Symbol, State as Symbols, of_table, visible, hide, switch}
 use Rattle.meaning.specs.Outcome.{Outcome as Meant, pass, fail, ◌and◌, begins, some, in_range, agree, pass_if, swap, restored, closed, matched, compared, text}
@@ -71,9 +72,6 @@ agrees w {v = v} e = ap (λ r. beq r w) e ∙ go v w
     go false true = refl
     go false false = refl
 
-differ : false ≡ true → ⊥
-differ e = let z : ◌≡◌ {A = ℕ} 0 1 = cc in omega (arith, z)
-
 -- ## A table's list
 
 module _ (t : ℕ) (state : State) (slots : List ℕ) (held : ℕ) {low : ℕ} (floor : low ≡ get_or (env_of state).floors t 0) where
@@ -84,14 +82,14 @@ module _ (t : ℕ) (state : State) (slots : List ℕ) (held : ℕ) {low : ℕ} (
   pub in_list : {after : List ℕ} → Below held slots after → listed t low after held ≡ seen_list
   in_list f = ap (λ σ. reverse (of_table t (drop low σ))) (kept_below f) ∙ ap (λ n. reverse (of_table t (drop n (symbols held slots)))) floor
 
-  module _ {seen : ℕ} (e : seen ≡ latest_of t low held slots) where
-    pub unseen : seen ≡ 0 → seen_list ≡ []
+  module _ {seen : Option ℕ} (e : seen ≡ latest_of t low held slots) where
+    pub unseen : seen ≡ None → seen_list ≡ []
     unseen z = sym (in_list (below_same held slots)) ∙ seen_none t low slots held e z
 
-    pub in_view : 0 < seen → seen_list ≡ symbol_at slots (seen - 1) ∷ listed t low slots (seen - 1)
-    in_view l = sym (in_list (below_same held slots)) ∙ seen_front t low slots held e l
+    pub in_view : {k : ℕ} → seen ≡ Some k → seen_list ≡ symbol_at slots k ∷ listed t low slots k
+    in_view z = sym (in_list (below_same held slots)) ∙ seen_front t low slots held e z
 
-    pub any_seen : ltb 0 seen ≡ some seen_list
+    pub any_seen : is_some seen ≡ some seen_list
     any_seen = seen_some t low slots held e ∙ ap some (in_list (below_same held slots))
 
 -- ## An entry
@@ -281,28 +279,34 @@ module _ {code image input slots : List ℕ} {left number at held spent deepest 
         (leaf Any h (pass_if (some (drop at input)) (at + 1) σ)
         (tells_any g input B D R left spent deepest E.more E.ready.deep E.step (env_of state) at σ))
 
+    span_taken : {s s' : Span} → ◌≡◌ {A = Option Span} (Some s) (Some s') → in_range s.lo s.hi (drop at input) ≡ in_range s'.lo s'.hi (drop at input)
+    span_taken {s} {s'} e = let same : s ≡ s' = cc in ap (λ s. in_range s.lo s.hi (drop at input)) same
+
+    no_span : {s : Span} → ◌≡◌ {A = Option Span} None (Some s) → ⊥
+    no_span e = let z : ◌≡◌ {A = ℕ} 0 1 = cc in omega arith
+
     -- The kinds that ask for a single byte.
-    pub says_one : (k : Node) {ok : Bool} → Kind k → (span_of k).one ≡ true → ok ≡ in_range (span_of k).lo (span_of k).hi (drop at input)
+    pub says_one : (k : Node) {ok : Bool} {s : Span} → Kind k → span_of k ≡ Some s → ok ≡ in_range s.lo s.hi (drop at input)
         → Said (came (pass_if ok (at + 1) σ) steps depth)
-    says_one (Byte b) h o q = says_byte h q
-    says_one (Range lo hi) h o q = says_range h q
-    says_one Any h o q = says_any h (q ∙ any_test at input E.ready.bytes)
-    says_one Empty h o q = absurd (differ o)
-    says_one (Text p c) h o q = absurd (differ o)
-    says_one (Sequence a b) h o q = absurd (differ o)
-    says_one (Choice a b) h o q = absurd (differ o)
-    says_one (Star a) h o q = absurd (differ o)
-    says_one (Not a) h o q = absurd (differ o)
-    says_one (Call a) h o q = absurd (differ o)
-    says_one (Def t) h o q = absurd (differ o)
-    says_one (Match t) h o q = absurd (differ o)
-    says_one (Is t) h o q = absurd (differ o)
-    says_one (Isa t) h o q = absurd (differ o)
-    says_one (Exists t) h o q = absurd (differ o)
-    says_one (Block t a) h o q = absurd (differ o)
-    says_one (Local t a) h o q = absurd (differ o)
-    says_one (If c w) h o q = absurd (differ o)
-    says_one (On c w a) h o q = absurd (differ o)
+    says_one (Byte b) h o q = says_byte h (q ∙ sym (span_taken o))
+    says_one (Range lo hi) h o q = says_range h (q ∙ sym (span_taken o))
+    says_one Any h o q = says_any h (q ∙ sym (span_taken o) ∙ any_test at input E.ready.bytes)
+    says_one Empty h o q = absurd (no_span o)
+    says_one (Text p c) h o q = absurd (no_span o)
+    says_one (Sequence a b) h o q = absurd (no_span o)
+    says_one (Choice a b) h o q = absurd (no_span o)
+    says_one (Star a) h o q = absurd (no_span o)
+    says_one (Not a) h o q = absurd (no_span o)
+    says_one (Call a) h o q = absurd (no_span o)
+    says_one (Def t) h o q = absurd (no_span o)
+    says_one (Match t) h o q = absurd (no_span o)
+    says_one (Is t) h o q = absurd (no_span o)
+    says_one (Isa t) h o q = absurd (no_span o)
+    says_one (Exists t) h o q = absurd (no_span o)
+    says_one (Block t a) h o q = absurd (no_span o)
+    says_one (Local t a) h o q = absurd (no_span o)
+    says_one (If c w) h o q = absurd (no_span o)
+    says_one (On c w a) h o q = absurd (no_span o)
 
     pub says_text : {place count : ℕ} {ok : Bool} → Kind (Text place count) → ok ≡ begins (take count (drop place image)) (drop at input)
         → Said (came (pass_if ok (at + count) σ) steps depth)

@@ -1,5 +1,5 @@
 -- A node that was entered: what it may ask of the functions that it calls.
-use Rattle.std.specs.Prelude.{ℕ, zero, suc, ◌+◌, ◌-◌, ◌*◌, ◌≤◌, ◌<◌, ◌≡◌, refl, Bool, true, false, ltb, length, take, drop}
+use Rattle.std.specs.Prelude.{ℕ, zero, suc, ◌+◌, ◌-◌, ◌*◌, ◌≤◌, ◌<◌, ◌≡◌, refl, Option, Some, Bool, true, false, ltb, length, take, drop}
 use Rattle.std.proofs.Common.{ap, sym, ◌∙◌, subst, arith, length-drop, ltb-true, ltb-false}
 use mathlib.Core.List.Memᴰ
 use mathlib.Core.List.{List, [], ◌∷◌, ◌++◌, Memᴰ}
@@ -11,6 +11,8 @@ use Rattle.meaning.specs.Forward.{begins_fits, range_fits}
 use Rattle.meaning.specs.Inside.{Part}
 use Rattle.parts.specs.declared.outcome.Outcome.TheVariants.{Refused}
 use Rattle.kinds.specs.declared.state.State.{State}
+use Rattle.parts.specs.declared.outcome.Stop.TheVariants.{Steps, Depth}
+use Rattle.parts.specs.declared.outcome.Packed.{Packed}
 use Rattle.parts.specs.Packed.{opened_of}
 use Rattle.parts.specs.Slots.{symbol_at, symbols, latest_of, Below, Parts}
 use Rattle.parts.specs.Seen.{seen_below}
@@ -40,17 +42,17 @@ symbol_held (suc h) slots k l = go (λ m. symbol_held h slots k m) (ltb k h) ref
 
 module _ {code image input slots : List ℕ} {left at held spent deepest : ℕ} (ready : Ready code image input slots left at held spent deepest)
     (state : State) (n : ℕ) where
-  pub refuses_steps : step_limit code ≤ spent → {q : ℕ} → opened_of q ≡ Refused 12 at spent deepest
+  pub refuses_steps : step_limit code ≤ spent → {q : Packed} → opened_of q ≡ Refused Steps at spent deepest
       → Done held slots slots q (telling code image input state left spent deepest (node (grammar_of image) n) at (symbols held slots))
   refuses_steps h e =
-      done_as (done_refused 12 at spent deepest e)
+      done_as (done_refused Steps at spent deepest e)
       (sym (tells_no_steps (grammar_of image) input (step_limit code) (depth_limit code) (room_limit code) left spent deepest (env_of state)
       (node (grammar_of image) n) at (symbols held slots) h ready.reached))
 
-  pub refuses_depth : spent < step_limit code → left ≡ 0 → {q : ℕ} → opened_of q ≡ Refused 13 at spent deepest
+  pub refuses_depth : spent < step_limit code → left ≡ 0 → {q : Packed} → opened_of q ≡ Refused Depth at spent deepest
       → Done held slots slots q (telling code image input state left spent deepest (node (grammar_of image) n) at (symbols held slots))
   refuses_depth h z e =
-      done_as (done_refused 13 at spent deepest e)
+      done_as (done_refused Depth at spent deepest e)
       (sym (tells_no_depth (grammar_of image) input (step_limit code) (depth_limit code) (room_limit code) left spent deepest (env_of state)
       (node (grammar_of image) n) at (symbols held slots) h z (omega (arith, ready.reached))))
 
@@ -95,22 +97,21 @@ module _ {code image input slots : List ℕ} {left number at held spent deepest 
   held_part {after} f k l =
       E.ready.parts (symbol_at after k) (subst (Memᴰ (symbol_at after k)) (kept_below f) (symbol_held held after k l))
 
-  module _ (table low : ℕ) {seen : ℕ} (e : seen ≡ latest_of table low held slots) (some : 0 < seen) where
+  module _ (table low : ℕ) {seen : Option ℕ} (e : seen ≡ latest_of table low held slots) {k : ℕ} (some : seen ≡ Some k) where
     -- What is seen is held.
-    pub seen_held : seen - 1 < held
-    seen_held = omega (arith, seen_below table low slots held e)
+    pub seen_held : k < held
+    seen_held = seen_below table low slots held e some
 
-    pub seen_fits : {after : List ℕ} → Below held slots after
-        → (seen - 1 ≤ 255) × ((seen - 1) * 3 + 3 ≤ length after) × Part (length input) (symbol_at after (seen - 1))
+    pub seen_fits : {after : List ℕ} → Below held slots after → (k ≤ 255) × (k * 3 + 3 ≤ length after) × Part (length input) (symbol_at after k)
     seen_fits f =
         let l = seen_held in (
           omega (arith, held_lent.0),
           omega (arith, held_lent.1, f.long),
-          held_part f (seen - 1) l,
+          held_part f k l,
         )
 
   -- What the expression inside gives is within bounds.
-  module _ {after : List ℕ} {r : ℕ} (state : State) (n : ℕ)
+  module _ {after : List ℕ} {r : Packed} (state : State) (n : ℕ)
       (done : Done held slots after r (telling code image input state (left - 1) steps depth (node (grammar_of image) n) at (symbols held slots))) where
     inner_bounds : Bounds (length input) at held (room_limit code) (opened_of r)
     inner_bounds = bounds_of state (node (grammar_of image) n) (below E) done

@@ -12,9 +12,11 @@ use Rattle.meaning.specs.Inside.{Part}
 use Rattle.parts.specs.declared.outcome.Outcome.{Outcome}
 use Rattle.parts.specs.declared.outcome.Outcome.TheVariants.{Passed, Failed, Refused}
 use Rattle.kinds.specs.declared.state.State.{State}
-use Rattle.parts.specs.Packed.{at_of, held_of, steps_of, depth_of, opened_of}
+use Rattle.parts.specs.declared.outcome.Packed.{Packed}
+use Rattle.parts.specs.Packed.{number_of, at_of, held_of, steps_of, depth_of, opened_of}
 use Rattle.parts.specs.Slots.{symbols, Below}
 use Rattle.kinds.specs.Held.{env_of}
+use Rattle.machine.specs.declared.evaluate.Machine.{Machine}
 use Rattle.machine.specs.Told.{Told, came, stopped, tells, rounding}
 
 -- The grammar that an image stands for; where it stands for none, one without nodes.
@@ -74,10 +76,10 @@ Node image n = n < size (grammar_of image)
 abbrev pub read_back : Outcome → (slots : List ℕ) → Told
 read_back (Passed a h s d) slots = came (pass a (symbols h slots)) s d
 read_back (Failed s d) slots = came fail s d
-read_back (Refused n p s d) slots = stopped n p s d
+read_back (Refused n p s d) slots = stopped (number_of n) p s d
 
 -- Given: what is said, and that nothing below the held symbols is written.
-pub record Done (held : ℕ) (before after : List ℕ) (r : ℕ) (said : Told) : Type 0 where
+pub record Done (held : ℕ) (before after : List ℕ) (r : Packed) (said : Told) : Type 0 where
   pub says : read_back (opened_of r) after ≡ said
   pub frame : Below held before after
 
@@ -90,28 +92,28 @@ abbrev pub starring : (code image input : List ℕ) (state : State) (left steps 
 starring code image input state left steps depth a p σ =
     rounding (grammar_of image) input (step_limit code) (depth_limit code) (room_limit code) left steps depth (env_of state) a p σ
 
--- ## With the image in its lent bytes, and what an expression starts from in one number
+-- ## With what a run reads, and what an expression starts from in one number
 
 -- A node's number.
-abbrev pub Numbered : (code bytes : List ℕ) → ℕ → Type 0
-Numbered code bytes n = Node (image_of code bytes) n
+abbrev pub Numbered : Machine → ℕ → Type 0
+Numbered m n = Node (image_of m.code.now m.image.now) n
 
 -- Asked of what an expression starts from.
-abbrev pub Starts : (code bytes input slots : List ℕ) (left from : ℕ) → Type 0
-Starts code bytes input slots left from =
-    Ready code (image_of code bytes) input slots left (at_of from) (held_of from) (steps_of from) (depth_of from)
+abbrev pub Starts : (m : Machine) (slots : List ℕ) (left : ℕ) (from : Packed) → Type 0
+Starts m slots left from =
+    Ready m.code.now (image_of m.code.now m.image.now) m.input.now slots left (at_of from) (held_of from) (steps_of from) (depth_of from)
 
 -- What is to be said of a node, from a place and symbols;
-abbrev pub running : (code bytes input : List ℕ) (state : State) (left steps depth n : ℕ) → ℕ → Symbols → Told
-running code bytes input state left steps depth n p σ =
-    telling code (image_of code bytes) input state left steps depth (node (grammar_of (image_of code bytes)) n) p σ
+abbrev pub running : (m : Machine) (state : State) (left steps depth n : ℕ) → ℕ → Symbols → Told
+running m state left steps depth n p σ =
+    let image = image_of m.code.now m.image.now in
+    telling m.code.now image m.input.now state left steps depth (node (grammar_of image) n) p σ
 
 -- the same, from one number and the slots;
-abbrev pub saying : (code bytes input : List ℕ) (state : State) (slots : List ℕ) (left from n : ℕ) → Told
-saying code bytes input state slots left from n =
-    running code bytes input state left (steps_of from) (depth_of from) n (at_of from) (symbols (held_of from) slots)
+abbrev pub saying : (m : Machine) (state : State) (slots : List ℕ) (left : ℕ) (from : Packed) (n : ℕ) → Told
+saying m state slots left from n = running m state left (steps_of from) (depth_of from) n (at_of from) (symbols (held_of from) slots)
 
 -- and of a Star's rounds, from one number and the slots.
-abbrev pub repeating : (code bytes input : List ℕ) (state : State) (slots : List ℕ) (left from a : ℕ) → Told
-repeating code bytes input state slots left from a =
-    starring code (image_of code bytes) input state left (steps_of from) (depth_of from) a (at_of from) (symbols (held_of from) slots)
+abbrev pub repeating : (m : Machine) (state : State) (slots : List ℕ) (left : ℕ) (from : Packed) (a : ℕ) → Told
+repeating m state slots left from a =
+    starring m.code.now (image_of m.code.now m.image.now) m.input.now state left (steps_of from) (depth_of from) a (at_of from) (symbols (held_of from) slots)

@@ -20,6 +20,7 @@ use Rattle.meaning.specs.Inside.{Part, kept_inside}
 use Rattle.parts.specs.declared.outcome.Outcome.{Outcome}
 use Rattle.parts.specs.declared.outcome.Outcome.TheVariants.{Passed, Failed, Refused}
 use Rattle.kinds.specs.declared.state.State.{State}
+use Rattle.parts.specs.declared.outcome.Packed.{Packed}
 use Rattle.parts.specs.Packed.{opened_of}
 use Rattle.parts.specs.Slots.{symbols, Below}
 use Rattle.parts.specs.SlotsLaws.{symbols_length, symbols_same}
@@ -129,7 +130,7 @@ moved ready long place room spent deep reached entered parts = record {
   parts = parts;
 }
 
-module _ {code image input before after : List ℕ} {left at held s d : ℕ} {r : ℕ} (state : State) (e : Expr)
+module _ {code image input before after : List ℕ} {left at held s d : ℕ} {r : Packed} (state : State) (e : Expr)
     (ready : Ready code image input before left at held s d)
     (done : Done held before after r (telling code image input state left s d e at (symbols held before))) where
   abbrev σ : Symbols

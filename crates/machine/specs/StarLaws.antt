@@ -6,6 +6,8 @@ use Rattle.grammar.specs.Grammar.{node}
 use Rattle.format.specs.Reading.{pick}
 use Rattle.meaning.specs.State.{State as Symbols}
 use Rattle.meaning.specs.Outcome.{pass}
+use Rattle.parts.specs.declared.outcome.Stop.TheVariants.{Steps, Round}
+use Rattle.parts.specs.declared.outcome.Packed.{Packed}
 use Rattle.parts.specs.declared.outcome.Outcome.{Outcome}
 use Rattle.parts.specs.declared.outcome.Outcome.TheVariants.{Passed, Failed, Refused}
 use Rattle.kinds.specs.declared.state.State.{State}
@@ -35,11 +37,11 @@ module _ (code image input before : List ℕ) (state : State) (left a at held s 
   rounds_start r = record { ready = r; same = refl; frame = below_same held before; more = omega arith }
 
   -- The next starts from one number.
-  pub rounds_from : {now : List ℕ} {next here stored charged reached : ℕ} → Has next here stored charged reached → Rounds now here stored charged reached
+  pub rounds_from : {now : List ℕ} {next : Packed} {here stored charged reached : ℕ} → Has next here stored charged reached → Rounds now here stored charged reached
       → Rounds now (at_of next) (held_of next) (steps_of next) (depth_of next)
   rounds_from h r = rw (sym h.place, sym h.names, sym h.spent, sym h.deepest) r
 
-  module _ {now after : List ℕ} {here stored charged reached r : ℕ} (inv : Rounds now here stored charged reached)
+  module _ {now after : List ℕ} {here stored charged reached : ℕ} {r : Packed} (inv : Rounds now here stored charged reached)
       (done : Done stored now after r (telling code image input state left charged reached (node (grammar_of image) a) here (symbols stored now))) where
     abbrev again : ℕ → Symbols → ℕ → ℕ → Told
     again q τ s d = telling code image input state (left + 1) s d (Star a) q τ
@@ -59,7 +61,7 @@ module _ (code image input before : List ℕ) (state : State) (left a at held s 
         go _ at_failed i = elim i [ ]
         go _ at_refused on_refused = refl
 
-    pub star_ends : (s' d' : ℕ) → opened_of r ≡ Failed s' d' → {q : ℕ} → opened_of q ≡ Passed here stored s' d' → Done held before after q whole
+    pub star_ends : (s' d' : ℕ) → opened_of r ≡ Failed s' d' → {q : Packed} → opened_of q ≡ Passed here stored s' d' → Done held before after q whole
     star_ends s' d' e f = record {
       says = ap (λ o. read_back o after) f ∙ ap (λ τ. came (pass here τ) s' d') (kept_below done.frame) ∙ follows (Failed s' d') e;
       frame = framed;
@@ -69,7 +71,7 @@ module _ (code image input before : List ℕ) (state : State) (left a at held s 
       abbrev next : Told
       next = again n (symbols h after) s' d'
 
-      pub star_empty : n ≤ here → {q : ℕ} → opened_of q ≡ Refused 15 here s' d' → Done held before after q whole
+      pub star_empty : n ≤ here → {q : Packed} → opened_of q ≡ Refused Round here s' d' → Done held before after q whole
       star_empty l f = record {
         says =
             ap (λ o. read_back o after) f ∙ sym (ap (λ b. pick b next (stopped 15 here s' d')) (le-ltb here n l)) ∙ follows (Passed n h s' d') e;
@@ -82,7 +84,7 @@ module _ (code image input before : List ℕ) (state : State) (left a at held s 
       rest : here < n → next ≡ whole
       rest l = sym (ap (λ b. pick b next (stopped 15 here s' d')) (lt-ltb here n l)) ∙ follows (Passed n h s' d') e
 
-      pub star_spent : here < n → step_limit code ≤ s' → {q : ℕ} → opened_of q ≡ Refused 12 n s' d' → Done held before after q whole
+      pub star_spent : here < n → step_limit code ≤ s' → {q : Packed} → opened_of q ≡ Refused Steps n s' d' → Done held before after q whole
       star_spent l m f = record {
         says =
             ap (λ o. read_back o after) f

@@ -12,264 +12,256 @@ ghost use Rattle.machine.specs.Ready.{step_limit, depth_limit, Starts, Numbered,
 
 use image::node::{Node, node_of, span_of};
 use kinds::inside::{again, closed, defined, given, is_latest, is_some, negated, restored};
-use kinds::state::{State, floor, truth, with_floor, with_truth};
-use parts::bytes::{begins_with, within};
-use parts::outcome::{
-    Outcome, at_of, depth_of, failed, held_of, onward, opened, passed, refused, steps_of, stopped,
-};
+use kinds::state::State;
+use parts::bytes::within;
+use parts::outcome::{Outcome, Packed, Stop};
 use parts::slots::latest;
 use tally::entered;
 
-// Enters a node and runs it. The array `code` holds a word for each node, each table's pattern, the limits of steps, depth and room, and, for the promise
-// alone, how many of the bytes lent are the image's. A single byte is looked at on the spot if its depth was reached before, so that only the place and the
-// steps change; all else is run by a call.
-#[cycle(choice_eval_inside_sequence_star)]
-pub fn eval(
-    code: &[u32; 524],
-    image: &[u8; 16384],
-    input: &[u8],
-    slots: &mut [u32; 768],
-    state: State,
-    left: u32,
-    node: u32,
-    from: u64,
-) -> u64
-    requires { Starts code.now image.now input.now slots.old left from × Numbered code.now image.now node }
-    ensures { Done (held_of from) slots.old slots.new result
-        (saying code.now image.now input.now state slots.old left from node) }
-{
-    let spent = steps_of(from);
-    if code[520] <= spent {
-        return stopped(12, from);
-    }
-    if left == 0 {
-        return stopped(13, from);
-    }
-    let kind = node_of(code[node as usize]);
-    let span = span_of(kind);
-    if span.one {
-        let deepest = depth_of(from);
-        if code[521] - (left - 1) <= deepest {
-            let at = at_of(from);
-            let ok = within(input, at as usize, span.lo, span.hi);
-            let tally = entered(spent, deepest, 0);
-            let charged = passed(at, held_of(from), tally.steps, tally.depth);
-            return onward(ok, charged);
-        }
-    }
-    inside(code, image, input, slots, state, left, node, from)
+// Where in the array of nodes and patterns the limits of steps, depth and room stand.
+pub const STEP_LIMIT: usize = 520;
+
+pub const DEPTH_LIMIT: usize = 521;
+
+pub const ROOM_LIMIT: usize = 522;
+
+// Where it stands how many of the bytes lent are the image's: no code reads that, but the promise needs it.
+pub const IMAGE_LENGTH: usize = 523;
+
+// What a run reads: the array of nodes, patterns and limits; the image's bytes; and the input.
+#[derive(Clone, Copy)]
+pub struct Machine<'a> {
+    pub code: &'a [u32; 524],
+    pub image: &'a [u8; 16384],
+    pub input: &'a [u8],
 }
 
-// Charges the entry and runs a node of any kind; a single byte comes here at a depth that is new. A step and a depth must be left.
-#[cycle(choice_eval_inside_sequence_star)]
-pub fn inside(
-    code: &[u32; 524],
-    image: &[u8; 16384],
-    input: &[u8],
-    slots: &mut [u32; 768],
-    state: State,
-    left: u32,
-    node: u32,
-    from: u64,
-) -> u64
-    requires { Starts code.now image.now input.now slots.old left from × Numbered code.now image.now node × (steps_of from < step_limit code.now) × (1 ≤ left) }
-    ensures { Done (held_of from) slots.old slots.new result
-        (saying code.now image.now input.now state slots.old left from node) }
-{
-    let below = left - 1;
-    let at = at_of(from);
-    let held = held_of(from);
-    let tally = entered(steps_of(from), depth_of(from), code[521] - below);
-    let steps = tally.steps;
-    let depth = tally.depth;
-    let charged = passed(at, held, steps, depth);
-    let kind = node_of(code[node as usize]);
-    match kind {
-        Node::Empty => charged,
-        Node::Byte(b) => given(within(input, at as usize, b, b), at + 1, held, steps, depth),
-        Node::Range(lo, hi) => given(
-            within(input, at as usize, lo, hi),
-            at + 1,
-            held,
-            steps,
-            depth,
-        ),
-        Node::Any => given((at as usize) < input.len(), at + 1, held, steps, depth),
-        Node::Text(place, count) => given(
-            begins_with(input, at as usize, image, place as usize, count as usize),
-            at + count,
-            held,
-            steps,
-            depth,
-        ),
-        Node::Sequence(a, b) => sequence(code, image, input, slots, state, below, a, b, charged),
-        Node::Choice(a, b) => choice(code, image, input, slots, state, below, a, b, charged),
-        Node::Star(a) => star(code, image, input, slots, state, below, a, charged),
-        Node::Not(a) => {
-            let r = eval(code, image, input, slots, state, below, a, charged);
-            negated(at, held, r)
+impl<'a> Machine<'a> {
+    // Enters a node and runs it. The array `code` holds a word for each node, each table's pattern, the limits of steps, depth and room, and, for the promise
+    // alone, how many of the bytes lent are the image's. A single byte is looked at on the spot if its depth was reached before, so that only the place and the
+    // steps change; all else is run by a call.
+    #[cycle(choice_eval_inside_sequence_star)]
+    pub fn eval(
+        &self,
+        slots: &mut [u32; 768],
+        state: State,
+        left: u32,
+        node: u32,
+        from: Packed,
+    ) -> Packed
+        requires { Starts self.now slots.old left from × Numbered self.now node }
+        ensures { Done (held_of from) slots.old slots.new result
+            (saying self.now state slots.old left from node) }
+    {
+        let spent = from.steps();
+        if self.code[STEP_LIMIT] <= spent {
+            return from.stopped(Stop::Steps);
         }
-        Node::Call(a) => eval(code, image, input, slots, state, below, a, charged),
-        Node::Def(t) => {
-            let pattern = code[(512 + t) as usize];
-            let r = eval(code, image, input, slots, state, below, pattern, charged);
-            defined(code[522], slots, t, at, held, r)
+        if left == 0 {
+            return from.stopped(Stop::Depth);
         }
-        Node::Match(t) => {
-            let seen = latest(slots, t, floor(state, t), held);
-            if seen == 0 {
-                return failed(steps, depth);
+        let kind = node_of(self.code[node as usize]);
+        if let Some(span) = span_of(kind) {
+            let deepest = from.depth();
+            if self.code[DEPTH_LIMIT] - (left - 1) <= deepest {
+                let at = from.at();
+                let ok = within(self.input, at as usize, span.lo, span.hi);
+                let tally = entered(spent, deepest, 0);
+                let charged = Packed::passed(at, from.held(), tally.steps, tally.depth);
+                return charged.onward(ok);
             }
-            again(input, slots, seen - 1, at, held, steps, depth)
         }
-        Node::Is(t) => {
-            let seen = latest(slots, t, floor(state, t), held);
-            if seen == 0 {
-                return failed(steps, depth);
+        self.inside(slots, state, left, node, from)
+    }
+
+    // Charges the entry and runs a node of any kind; a single byte comes here at a depth that is new. A step and a depth must be left.
+    #[cycle(choice_eval_inside_sequence_star)]
+    pub fn inside(
+        &self,
+        slots: &mut [u32; 768],
+        state: State,
+        left: u32,
+        node: u32,
+        from: Packed,
+    ) -> Packed
+        requires { Starts self.now slots.old left from × Numbered self.now node × (steps_of from < step_limit self.now.code.now) × (1 ≤ left) }
+        ensures { Done (held_of from) slots.old slots.new result
+            (saying self.now state slots.old left from node) }
+    {
+        let below = left - 1;
+        let at = from.at();
+        let held = from.held();
+        let tally = entered(from.steps(), from.depth(), self.code[DEPTH_LIMIT] - below);
+        let steps = tally.steps;
+        let depth = tally.depth;
+        let charged = Packed::passed(at, held, steps, depth);
+        let kind = node_of(self.code[node as usize]);
+        match kind {
+            Node::Empty => charged,
+            Node::Byte(b) => given(
+                within(self.input, at as usize, b, b),
+                at + 1,
+                held,
+                steps,
+                depth,
+            ),
+            Node::Range(lo, hi) => given(
+                within(self.input, at as usize, lo, hi),
+                at + 1,
+                held,
+                steps,
+                depth,
+            ),
+            Node::Any => given((at as usize) < self.input.len(), at + 1, held, steps, depth),
+            Node::Text(place, count) => {
+                let (image, input) = (self.image, self.input);
+                let start = place as usize;
+                let text = &image[start..start + count as usize];
+                let ok = input[at as usize..].starts_with(text);
+                given(ok, at + count, held, steps, depth)
             }
-            let pattern = code[(512 + t) as usize];
-            let r = eval(code, image, input, slots, state, below, pattern, charged);
-            is_latest(input, slots, seen - 1, at, held, r)
-        }
-        Node::Isa(t) => {
-            let low = floor(state, t);
-            let seen = latest(slots, t, low, held);
-            if seen == 0 {
-                return failed(steps, depth);
+            Node::Sequence(a, b) => self.sequence(slots, state, below, a, b, charged),
+            Node::Choice(a, b) => self.choice(slots, state, below, a, b, charged),
+            Node::Star(a) => self.star(slots, state, below, a, charged),
+            Node::Not(a) => {
+                let r = self.eval(slots, state, below, a, charged);
+                negated(at, held, r)
             }
-            let pattern = code[(512 + t) as usize];
-            let r = eval(code, image, input, slots, state, below, pattern, charged);
-            is_some(input, slots, t, low, at, held, r)
-        }
-        Node::Exists(t) => {
-            let seen = latest(slots, t, floor(state, t), held);
-            given(0 < seen, at, held, steps, depth)
-        }
-        Node::Block(t, a) => {
-            let r = eval(code, image, input, slots, state, below, a, charged);
-            closed(slots, t, held, r)
-        }
-        Node::Local(t, a) => {
-            let hidden = with_floor(state, t, held);
-            let r = eval(code, image, input, slots, hidden, below, a, charged);
-            closed(slots, t, held, r)
-        }
-        Node::If(c, w) => given(truth(state, c) == w, at, held, steps, depth),
-        Node::On(c, w, a) => {
-            let switched = with_truth(state, c, w);
-            let r = eval(code, image, input, slots, switched, below, a, charged);
-            restored(held, r)
+            Node::Call(a) => self.eval(slots, state, below, a, charged),
+            Node::Def(t) => {
+                let pattern = self.code[(512 + t) as usize];
+                let r = self.eval(slots, state, below, pattern, charged);
+                defined(self.code[ROOM_LIMIT], slots, t, at, held, r)
+            }
+            Node::Match(t) => {
+                let Some(seen) = latest(slots, t, state.floor(t), held) else {
+                    return Packed::failed(steps, depth);
+                };
+                again(self.input, slots, seen, at, held, steps, depth)
+            }
+            Node::Is(t) => {
+                let Some(seen) = latest(slots, t, state.floor(t), held) else {
+                    return Packed::failed(steps, depth);
+                };
+                let pattern = self.code[(512 + t) as usize];
+                let r = self.eval(slots, state, below, pattern, charged);
+                is_latest(self.input, slots, seen, at, held, r)
+            }
+            Node::Isa(t) => {
+                let low = state.floor(t);
+                if latest(slots, t, low, held).is_none() {
+                    return Packed::failed(steps, depth);
+                }
+                let pattern = self.code[(512 + t) as usize];
+                let r = self.eval(slots, state, below, pattern, charged);
+                is_some(self.input, slots, t, low, at, held, r)
+            }
+            Node::Exists(t) => {
+                let seen = latest(slots, t, state.floor(t), held);
+                given(seen.is_some(), at, held, steps, depth)
+            }
+            Node::Block(t, a) => {
+                let r = self.eval(slots, state, below, a, charged);
+                closed(slots, t, held, r)
+            }
+            Node::Local(t, a) => {
+                let hidden = state.with_floor(t, held);
+                let r = self.eval(slots, hidden, below, a, charged);
+                closed(slots, t, held, r)
+            }
+            Node::If(c, w) => given(state.truth(c) == w, at, held, steps, depth),
+            Node::On(c, w, a) => {
+                let switched = state.with_truth(c, w);
+                let r = self.eval(slots, switched, below, a, charged);
+                restored(held, r)
+            }
         }
     }
-}
 
-// A, then b from where a came to.
-#[cycle(choice_eval_inside_sequence_star)]
-fn sequence(
-    code: &[u32; 524],
-    image: &[u8; 16384],
-    input: &[u8],
-    slots: &mut [u32; 768],
-    state: State,
-    left: u32,
-    a: u32,
-    b: u32,
-    from: u64,
-) -> u64
-    requires { Starts code.now image.now input.now slots.old left from × Numbered code.now image.now a × Numbered code.now image.now b }
-    ensures { Done (held_of from) slots.old slots.new result
-        (and_then (saying code.now image.now input.now state slots.old left from a)
-        (λ q τ s d. running code.now image.now input.now state left s d b q τ)) }
-{
-    let r = eval(code, image, input, slots, state, left, a, from);
-    let first = opened(r);
-    let Outcome::Passed {
-        at: _,
-        held: _,
-        steps: _,
-        depth: _,
-    } = first
-    else {
-        return r;
-    };
-    eval(code, image, input, slots, state, left, b, r)
-}
-
-// A; or, where a fails, b from the same place with the same symbols.
-#[cycle(choice_eval_inside_sequence_star)]
-fn choice(
-    code: &[u32; 524],
-    image: &[u8; 16384],
-    input: &[u8],
-    slots: &mut [u32; 768],
-    state: State,
-    left: u32,
-    a: u32,
-    b: u32,
-    from: u64,
-) -> u64
-    requires { Starts code.now image.now input.now slots.old left from × Numbered code.now image.now a × Numbered code.now image.now b }
-    ensures { Done (held_of from) slots.old slots.new result
-        (or_else (saying code.now image.now input.now state slots.old left from a)
-        (λ s d. running code.now image.now input.now state left s d b (at_of from) (symbols (held_of from) slots.old))) }
-{
-    let r = eval(code, image, input, slots, state, left, a, from);
-    let first = opened(r);
-    let Outcome::Failed {
-        steps: lost,
-        depth: reached,
-    } = first
-    else {
-        return r;
-    };
-    let back = passed(at_of(from), held_of(from), lost, reached);
-    eval(code, image, input, slots, state, left, b, back)
-}
-
-// Rounds of a until it fails, of which the first is charged already; the rounds that passed are kept.
-#[cycle(choice_eval_inside_sequence_star)]
-fn star(
-    code: &[u32; 524],
-    image: &[u8; 16384],
-    input: &[u8],
-    slots: &mut [u32; 768],
-    state: State,
-    left: u32,
-    a: u32,
-    from: u64,
-) -> u64
-    requires { Starts code.now image.now input.now slots.old left from × Numbered code.now image.now a × (left + 1 ≤ depth_limit code.now) }
-    ensures { Done (held_of from) slots.old slots.new result
-        (repeating code.now image.now input.now state slots.old left from a) }
-{
-    let mut here = from;
-    loop {
-        let r = eval(code, image, input, slots, state, left, a, here);
-        let round = opened(r);
-        let at = at_of(here);
-        let Outcome::Passed {
-            at: next,
-            held: more,
-            steps: spent,
-            depth: deepest,
-        } = round
-        else {
-            let Outcome::Failed {
-                steps: spent,
-                depth: deepest,
-            } = round
-            else {
-                return r;
-            };
-            return passed(at, held_of(here), spent, deepest);
+    // A, then b from where a came to.
+    #[cycle(choice_eval_inside_sequence_star)]
+    fn sequence(
+        &self,
+        slots: &mut [u32; 768],
+        state: State,
+        left: u32,
+        a: u32,
+        b: u32,
+        from: Packed,
+    ) -> Packed
+        requires { Starts self.now slots.old left from × Numbered self.now a × Numbered self.now b }
+        ensures { Done (held_of from) slots.old slots.new result
+            (and_then (saying self.now state slots.old left from a)
+            (λ q τ s d. running self.now state left s d b q τ)) }
+    {
+        let r = self.eval(slots, state, left, a, from);
+        // An outcome is one of three, and no `Result`: what did not pass is handed on as it is.
+        let Outcome::Passed { .. } = r.opened() else {
+            return r;
         };
-        if next <= at {
-            return refused(15, at, spent, deepest);
+        self.eval(slots, state, left, b, r)
+    }
+
+    // A; or, where a fails, b from the same place with the same symbols.
+    #[cycle(choice_eval_inside_sequence_star)]
+    fn choice(
+        &self,
+        slots: &mut [u32; 768],
+        state: State,
+        left: u32,
+        a: u32,
+        b: u32,
+        from: Packed,
+    ) -> Packed
+        requires { Starts self.now slots.old left from × Numbered self.now a × Numbered self.now b }
+        ensures { Done (held_of from) slots.old slots.new result
+            (or_else (saying self.now state slots.old left from a)
+            (λ s d. running self.now state left s d b (at_of from) (symbols (held_of from) slots.old))) }
+    {
+        let r = self.eval(slots, state, left, a, from);
+        let Outcome::Failed { steps, depth } = r.opened() else {
+            return r;
+        };
+        let back = Packed::passed(from.at(), from.held(), steps, depth);
+        self.eval(slots, state, left, b, back)
+    }
+
+    // Rounds of a until it fails, of which the first is charged already; the rounds that passed are kept.
+    #[cycle(choice_eval_inside_sequence_star)]
+    fn star(&self, slots: &mut [u32; 768], state: State, left: u32, a: u32, from: Packed) -> Packed
+        requires { Starts self.now slots.old left from × Numbered self.now a × (left + 1 ≤ depth_limit self.now.code.now) }
+        ensures { Done (held_of from) slots.old slots.new result
+            (repeating self.now state slots.old left from a) }
+    {
+        let mut here = from;
+        // No iterator: a round is a run, which goes on from the one before and writes the store.
+        loop {
+            let r = self.eval(slots, state, left, a, here);
+            let at = here.at();
+            match r.opened() {
+                Outcome::Passed {
+                    at: next,
+                    held,
+                    steps,
+                    depth,
+                } => {
+                    if next <= at {
+                        return Packed::refused(Stop::Round, at, steps, depth);
+                    }
+                    if self.code[STEP_LIMIT] <= steps {
+                        return Packed::refused(Stop::Steps, next, steps, depth);
+                    }
+                    let tally = entered(steps, depth, 0);
+                    here = Packed::passed(next, held, tally.steps, tally.depth);
+                }
+                Outcome::Failed { steps, depth } => return Packed::passed(
+                    at,
+                    here.held(),
+                    steps,
+                    depth,
+                ),
+                Outcome::Refused { .. } => return r,
+            }
         }
-        if code[520] <= spent {
-            return refused(12, next, spent, deepest);
-        }
-        let tally = entered(spent, deepest, 0);
-        here = passed(next, more, tally.steps, tally.depth);
     }
 }

@@ -1,12 +1,5 @@
 -- The name that a text's first token says is its first production's.
-use Prim.Native.Nat.{ℕ}
-use mathlib.Core.Path.{◌≡◌, refl, ap, sym, subst, ◌∙◌}
-use mathlib.Core.Bool.{Bool, true, false}
-use mathlib.Core.List.{List, [], ◌∷◌}
-use lib.Dec.{eqb}
-use lib.ListN.{drop}
-use borrow.Author.Tests.{eqb-true, eqb-false}
-use Rattle.format.specs.Reading.{pick}
+use Rattle.std.proofs.Common.{ℕ, ◌≡◌, refl, ap, sym, subst, ◌∙◌, true, false, List, [], ◌∷◌, drop}
 use Rattle.notation.specs.Tree.{Name, Tree, Production}
 use Rattle.notation.specs.Token.{Token, head, bare}
 use Rattle.notation.specs.Notation.{Productions, last, more}
@@ -18,7 +11,8 @@ use Rattle.notation.specs.Naming.{names, member}
 use Rattle.notation.specs.Compile.{entry, roots, first}
 use Rattle.notation.specs.CompileLaws.{member-here}
 use Rattle.notation.specs.Places.{is_head}
-use Rattle.lexer.specs.Meant.{ahead}
+use Rattle.lexer.specs.declared.token.Kind.{Kind}
+use Rattle.lexer.specs.Meant.{ahead_by, ahead}
 use Rattle.lexer.specs.declared.token.Token as lexer
 use Rattle.naming.proofs.HeadLaws.{is_head_lem, no_head}
 
@@ -48,12 +42,12 @@ first_name_lem {n = n} (more {n = m} {a = a} {ps = qs} D P) e =
 
 -- The code's first token says that name.
 pub first_of : {ts : List Token} {ps : List Production} → Productions ts ps → (text : List ℕ) (t : lexer.Token) → bare (ahead text t) ≡ ts → First (name_at text t.name) ps
-unfolding ahead
-first_of {ts} {ps} P text t e = go (eqb t.kind 0) (eqb t.kind 1) refl refl
+unfolding ahead_by
+first_of {ts} {ps} P text t e = go t.kind refl e
   where
-    go : (a b : Bool) → eqb t.kind 0 ≡ a → eqb t.kind 1 ≡ b → First (name_at text t.name) ps
-    go true b p q = absurd (not_empty P (sym (rw p at e)))
-    go false true p q =
-        let z = rw p at e in first_name_lem P (sym z ∙ ap (λ x. x ∷ bare (pick (eqb t.kind 11) [] (lexemes (drop t.next text)))) (is_head_lem text t (eqb-true t.kind 1 q)))
-    go false false p q =
-        let z : true ≡ false = sym (head_front P (sym (rw p at e))) ∙ no_head text t (eqb-false t.kind 1 q) in no_way (cc)
+    go : (k : Kind) → t.kind ≡ k → bare (ahead_by text t k) ≡ ts → First (name_at text t.name) ps
+    go Kind.End q f = absurd (not_empty P (sym f))
+    go Kind.Head q f = first_name_lem P (sym f ∙ ap (λ x. x ∷ bare (lexemes (drop t.next text))) (is_head_lem text t q))
+    go k q f =
+        let n : t.kind ≡ Kind.Head → ⊥ = λ z. no_way (cc) in
+        let z : true ≡ false = sym (head_front P (sym f)) ∙ no_head text t n in no_way (cc)

@@ -1,10 +1,9 @@
 -- Gathering names, one token after the other.
-use Prim.Native.Nat.{ℕ, ◌≤◌, ◌<◌}
+use Prim.Native.Nat.{ℕ, ◌≤◌}
 use mathlib.Core.Path.{◌≡◌, refl, ap, sym, ◌∙◌}
-use mathlib.Core.Bool.{Bool, true, false, not}
+use mathlib.Core.Bool.{Bool, true, false}
 use mathlib.Core.List.{List, [], ◌∷◌}
 use native.Mathlib.Omega.{arith}
-use lib.Dec.{eqb, ltb}
 use lib.ListN.{length}
 use mathlib.Core.Option.{Option, some}
 use Rattle.format.specs.Reading.{pick}
@@ -14,60 +13,39 @@ use Rattle.notation.specs.At.{name_at}
 use Rattle.notation.specs.Lexer.{lexemes}
 use Rattle.notation.specs.Compile.{insert}
 use Rattle.notation.specs.Places.{first_name, again, ninth, name_place}
-use Rattle.index.specs.Listed.{names_at, Ascending, Keeps}
+use Rattle.index.specs.Listed.{names_at, Ascending}
 use Rattle.notation.specs.OrderLaws.{insert_ascending}
 use Rattle.index.specs.PlaceLaws.{names_length}
-use Rattle.index.specs.declared.list.Kept.{Kept}
-use Rattle.naming.specs.Found.{found, here_if, or_else}
+use Rattle.naming.specs.Found.{found}
 use Rattle.naming.specs.Gathered.{sort_of, inserted, gathered, Gathers, Adds}
 use Rattle.naming.specs.GatheredLaws.{gathered_grows}
-use Rattle.naming.specs.declared.found.Found.{Found}
-use Rattle.naming.specs.declared.found.Found.TheVariants.{At, Nowhere}
+use Rattle.std.specs.declared.option.Option as Std
+use Rattle.std.specs.declared.option.Option.TheVariants.{Some, None}
 use Rattle.naming.specs.declared.gather.Gathered.{Gathered}
-
--- What keeping a name and looking at what it came to adds.
-pub adds :
-    {text at : List ℕ} {g : Gathered} {p : ℕ} {now : List ℕ} {k : Kept} {a b : Found} → g.count < length at
-    → Keeps text at g.count p now k → a ≡ or_else g.again (here_if (not k.fresh) p) → b ≡ or_else g.ninth (here_if (ltb 8 k.count) p)
-    → Adds text at g p now (record { count = k.count; again = a; ninth = b })
-adds {text} {at} {g} {p} {now} {k} h K e f =
-    let n = name_at text p in
-    let ns = names_at text at g.count in
-    let fits : k.count ≤ length now = omega (arith, K.most, K.long) in
-    record {
-      listed = K.names;
-      within = fits;
-      long = K.long;
-      again = e ∙ ap (λ w. or_else g.again (here_if w p)) (ap not K.fresh ∙ twice (again ns n));
-      ninth = f ∙ ap (λ m. or_else g.ninth (here_if (ltb 8 m) p)) (sym (names_length text now k.count fits) ∙ ap length K.names);
-    }
-  where
-    twice : (b : Bool) → not (not b) ≡ b
-    twice true = refl
-    twice false = refl
+use Rattle.naming.specs.declared.gather.Sort.{Sort}
+use Rattle.naming.specs.declared.gather.Sort.TheVariants.{Productions, Tables, Conditions}
+use Rattle.std.specs.Option.{option_or}
+use Rattle.std.specs.Bool.{then_some}
 
 -- What is no token names nothing.
-pub sort_bad : (sort : ℕ) → sort_of sort bad ≡ []
-sort_bad sort = go (eqb sort 0) (eqb sort 1) refl refl
-  where
-    go : (a b : Bool) → eqb sort 0 ≡ a → eqb sort 1 ≡ b → sort_of sort bad ≡ []
-    go true b p q = rw p
-    go false true p q = rw (p, q)
-    go false false p q = rw (p, q)
+pub sort_bad : (sort : Sort) → sort_of sort bad ≡ []
+sort_bad Productions = refl
+sort_bad Tables = refl
+sort_bad Conditions = refl
 
 -- ## A place that is found, with what is still to come
 
-nowhere_else : (a : Found) → or_else a Nowhere ≡ a
-nowhere_else (At p) = refl
-nowhere_else Nowhere = refl
+nowhere_else : (a : Std.Option ℕ) → option_or a None ≡ a
+nowhere_else (Some p) = refl
+nowhere_else None = refl
 
 -- A place that a test picks, with what comes behind it.
 found_here :
-    (place : Lexeme → ℕ) (a : Found) (b : Bool) (p : ℕ) (l : Lexeme) (later : Option Lexeme) → place l ≡ p
-    → or_else (or_else a (here_if b p)) (found place later) ≡ or_else a (found place (pick b (some l) later))
-found_here place (At q) b p l later e = refl
-found_here place Nowhere true p l later e = ap At (sym e)
-found_here place Nowhere false p l later e = refl
+    (place : Lexeme → ℕ) (a : Std.Option ℕ) (b : Bool) (p : ℕ) (l : Lexeme) (later : Option Lexeme) → place l ≡ p
+    → option_or (option_or a (then_some b p)) (found place later) ≡ option_or a (found place (pick b (some l) later))
+found_here place (Some q) b p l later e = refl
+found_here place None true p l later e = ap Some (sym e)
+found_here place None false p l later e = refl
 
 module _ (f : Token → List Name) (test : List Name → Name → Bool) (before : List Name) (l : Lexeme) (ls : List Lexeme) where
   name_none : f l.token ≡ [] → first_name f test before (l ∷ ls) ≡ first_name f test before ls
@@ -82,8 +60,8 @@ module _ (f : Token → List Name) (test : List Name → Name → Bool) (before 
 
 module _ (f : Token → List Name) (text : List ℕ) (whole : List Lexeme) where
   -- The first name that a test does not let pass.
-  abbrev First : (List Name → Name → Bool) → Found → List Name → List Lexeme → Type 0
-  First test a before ls = or_else a (found (name_place text) (first_name f test before ls)) ≡ found (name_place text) (first_name f test [] whole)
+  abbrev First : (List Name → Name → Bool) → Std.Option ℕ → List Name → List Lexeme → Type 0
+  First test a before ls = option_or a (found (name_place text) (first_name f test before ls)) ≡ found (name_place text) (first_name f test [] whole)
 
   pub record Gathering (at : List ℕ) (g : Gathered) (ls : List Lexeme) : Type 0 where
     pub within : g.count ≤ length at
@@ -118,7 +96,7 @@ module _ (f : Token → List Name) (text : List ℕ) (whole : List Lexeme) where
   gathering_on {at} {now} {g} {r} {l} {ls} {p} h e A G =
       let ns = names_at text at g.count in
       let n = name_at text p in
-      let first : (test : List Name → Name → Bool) (a b : Found) → b ≡ or_else a (here_if (test ns n) p) → First test a ns (l ∷ ls)
+      let first : (test : List Name → Name → Bool) (a b : Std.Option ℕ) → b ≡ option_or a (then_some (test ns n) p) → First test a ns (l ∷ ls)
       → First test b (names_at text now r.count) ls = λ test a b q F.
       rw (A.listed, q)
       (found_here (name_place text) a (test ns n) p l (first_name f test (insert n ns) ls) h ∙ rw (name_one f test ns l ls n e) at F)
@@ -130,10 +108,6 @@ module _ (f : Token → List Name) (text : List ℕ) (whole : List Lexeme) where
         again = first again g.again r.again A.again G.again;
         ninth = first ninth g.ninth r.ninth A.ninth G.ninth;
       }
-
-pub gathering_none : (f : Token → List Name) (text : List ℕ) {at : List ℕ} (ls : List Lexeme)
-    → Gathering f text ls at (record { count = 0; again = Nowhere; ninth = Nowhere }) ls
-gathering_none f text ls = record { within = omega arith; ordered = tt; listed = refl; again = refl; ninth = refl }
 
 pub gathering_all : (f : Token → List Name) (text : List ℕ) {at : List ℕ} {g : Gathered} → Gathering f text (lexemes text) at g [] → Gathers f text at g
 unfolding gathered first_name

@@ -1,11 +1,6 @@
 -- Which tokens are heads, and what they are heads of.
-use Prim.Native.Nat.{ℕ}
-use mathlib.Core.Path.{◌≡◌, refl, ap, sym, ◌∙◌}
-use mathlib.Core.Bool.{true, false}
-use mathlib.Core.List.{List, [], ◌∷◌, map}
-use lib.Dec.{eqb}
-use lib.ListN.{length, length-map}
-use borrow.Author.Tests.{ne_eqb}
+use Rattle.std.proofs.Common.{ℕ, ◌≡◌, refl, ap, sym, ◌∙◌, true, false, List, [], ◌∷◌, map, length}
+use Rattle.std.proofs.Math.ListN.{length-map}
 use Rattle.notation.specs.Tree.{Name, Production}
 use Rattle.notation.specs.Token.{Token, head, leaf, opens, closes, left, right, slash, before, after, bad, Lexeme, bare}
 use Rattle.notation.specs.Notation.{Productions}
@@ -14,38 +9,32 @@ use Rattle.notation.specs.Naming.{names}
 use Rattle.notation.specs.Uses.{per_token, heads_in, head_of}
 use Rattle.notation.specs.UsesLaws.{heads_are}
 use Rattle.notation.specs.Places.{is_head, only}
-use Rattle.lexer.specs.Meant.{meant, placed}
+use Rattle.lexer.specs.declared.token.Kind.{Kind}
+use Rattle.lexer.specs.Meant.{meant_by, meant, placed}
 use Rattle.lexer.specs.declared.token.Token as lexer
-use Rattle.naming.proofs.PickLaws.{pick_with}
 
 -- The name of a head; of any other token none.
 abbrev pub name_of : Lexeme → Name
 name_of l = elim (head_of l.token) [ [] ↦ [] | n ∷ more ↦ n ]
 
 module _ (text : List ℕ) (t : lexer.Token) where
-  pub is_head_lem : t.kind ≡ 1 → meant text t ≡ head (name_at text t.name)
-  unfolding meant
-  is_head_lem e = rw e
+  pub is_head_lem : t.kind ≡ Kind.Head → meant text t ≡ head (name_at text t.name)
+  unfolding meant_by
+  is_head_lem e = rw e refl
 
-  pub head_is : t.kind ≡ 1 → is_head (meant text t) ≡ true
+  pub head_is : t.kind ≡ Kind.Head → is_head (meant text t) ≡ true
   head_is e = rw (is_head_lem e)
 
-  pub head_name : t.kind ≡ 1 → name_of (placed text t) ≡ name_at text t.name
+  pub head_name : t.kind ≡ Kind.Head → name_of (placed text t) ≡ name_at text t.name
   head_name e = rw (is_head_lem e)
 
-  pub no_head : (t.kind ≡ 1 → ⊥) → is_head (meant text t) ≡ false
-  unfolding meant
-  no_head f =
-      let k = t.kind in
-      let P : Token → Type 0 = λ x. is_head x ≡ false in
-      rw (ne_eqb k 1 f)
-      (pick_with P (eqb k 2) (λ _. refl) λ _.
-      pick_with P (eqb k 3) (λ _. refl) λ _.
-      pick_with P (eqb k 4) (λ _. refl) λ _.
-      pick_with P (eqb k 5) (λ _. refl) λ _.
-      pick_with P (eqb k 6) (λ _. refl) λ _.
-      pick_with P (eqb k 7) (λ _. refl) λ _.
-      pick_with P (eqb k 8) (λ _. refl) λ _. pick_with P (eqb k 9) (λ _. refl) λ _. pick_with P (eqb k 10) (λ _. refl) λ _. refl)
+  others : (k : Kind) → (k ≡ Kind.Head → ⊥) → is_head (meant_by text t k) ≡ false
+  unfolding meant_by
+  others Kind.Head f = absurd (f refl)
+  others k f = refl
+
+  pub no_head : (t.kind ≡ Kind.Head → ⊥) → is_head (meant text t) ≡ false
+  no_head = others t.kind
 
 -- The heads of a text are named as its productions are.
 module _ (h : List ℕ) where

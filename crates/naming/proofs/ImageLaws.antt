@@ -5,10 +5,8 @@ use mathlib.Core.Bool.{true, false}
 use mathlib.Core.List.{List, [], ◌∷◌}
 use mathlib.Core.Option.{Option, some, none}
 use native.Mathlib.Omega.{arith}
-use native.Mathlib.Numerals.{add-one}
 use lib.Dec.{ltb}
-use lib.ListN.{length, take, drop, get_or, drop_of_length-le}
-use lib.Seq.{drop-cons}
+use lib.ListN.{length, take, get_or}
 use Rattle.format.specs.Reading.{pick}
 use Rattle.grammar.specs.Grammar.{Grammar}
 use Rattle.notation.specs.Tree.{Production}
@@ -20,8 +18,8 @@ use Rattle.notation.specs.Places.{first_over, image_up_to, is_head, only}
 use Rattle.naming.specs.Found.{found}
 use Rattle.naming.specs.Sized.{nodes_of, Sized}
 use Rattle.naming.specs.GatheredLaws.{reading}
-use Rattle.naming.specs.declared.found.Found.{Found}
-use Rattle.naming.specs.declared.found.Found.TheVariants.{At, Nowhere}
+use Rattle.std.specs.declared.option.Option as Std
+use Rattle.std.specs.declared.option.Option.TheVariants.{Some, None}
 use Rattle.naming.proofs.HeadLaws.{heads_length}
 
 -- The first head whose end, counted from the base, is past a limit.
@@ -33,42 +31,40 @@ first_above limit base (e ∷ ends) (h ∷ heads) = pick (ltb limit (base + e)) 
 -- ## While no end is past the limit, what is still to come has the first that is
 
 module _ (limit base : ℕ) (ends : List ℕ) (place : Lexeme → ℕ) (whole : List Lexeme) where
-  abbrev result : Found
+  abbrev result : Std.Option ℕ
   result = found place (first_above limit base ends (only is_head whole))
 
-  pub record Ending (i : ℕ) (ls : List Lexeme) : Type 0 where
-    pub still : found place (first_above limit base (drop i ends) (only is_head ls)) ≡ result
+  pub record Ending (rest : List ℕ) (ls : List Lexeme) : Type 0 where
+    pub still : found place (first_above limit base rest (only is_head ls)) ≡ result
 
   -- No head is left; or no end.
-  pub ending_over : {i : ℕ} → Ending i [] → Nowhere ≡ result
+  pub ending_over : (rest : List ℕ) → Ending rest [] → None ≡ result
   unfolding first_above only
-  ending_over {i} E = sym (ap (found place) (none_left (drop i ends))) ∙ E.still
-    where
-      none_left : (es : List ℕ) → first_above limit base es [] ≡ none
-      none_left [] = refl
-      none_left (e ∷ es) = refl
+  ending_over [] E = E.still
+  ending_over (e ∷ rest) E = E.still
 
-  pub ending_out : {i : ℕ} {ls : List Lexeme} → length ends ≤ i → Ending i ls → Nowhere ≡ result
+  pub ending_out : {ls : List Lexeme} (rest : List ℕ) → length rest ≡ 0 → Ending rest ls → None ≡ result
   unfolding first_above
-  ending_out h E = rw (drop_of_length-le ends h) at E.still
+  ending_out [] h E = E.still
+  ending_out (e ∷ rest) h E = absurd (omega arith)
 
-  module _ {i : ℕ} {l : Lexeme} {ls : List Lexeme} (E : Ending i (l ∷ ls)) where
-    pub ending_token : is_head l.token ≡ false → Ending i ls
+  module _ {l : Lexeme} {ls : List Lexeme} where
+    pub ending_token : {rest : List ℕ} → Ending rest (l ∷ ls) → is_head l.token ≡ false → Ending rest ls
     unfolding only
-    ending_token e = record { still = rw e at E.still }
+    ending_token E e = record { still = rw e at E.still }
 
-    module _ (e : is_head l.token ≡ true) (h : i < length ends) where
-      here : found place (pick (ltb limit (base + get_or ends i 0)) (some l) (first_above limit base (drop (i + 1) ends) (only is_head ls))) ≡ result
+    module _ {end : ℕ} {rest : List ℕ} (E : Ending (end ∷ rest) (l ∷ ls)) (e : is_head l.token ≡ true) where
+      here : found place (pick (ltb limit (base + end)) (some l) (first_above limit base rest (only is_head ls))) ≡ result
       unfolding first_above only
-      here = rw add-one (rw (e, drop-cons ends i 0 h) at E.still)
+      here = rw e at E.still
 
-      pub ending_head : ltb limit (base + get_or ends i 0) ≡ false → Ending (i + 1) ls
+      pub ending_head : ltb limit (base + end) ≡ false → Ending rest ls
       ending_head f = record { still = rw f at here }
 
-      pub ending_here : ltb limit (base + get_or ends i 0) ≡ true → {p : ℕ} → place l ≡ p → At p ≡ result
-      ending_here f q = ap At (sym q) ∙ rw f at here
+      pub ending_here : ltb limit (base + end) ≡ true → {p : ℕ} → place l ≡ p → Some p ≡ result
+      ending_here f q = ap Some (sym q) ∙ rw f at here
 
-  pub ending_bad : {i : ℕ} (l : Lexeme) → l.token ≡ bad → Ending i (l ∷ []) → Ending i []
+  pub ending_bad : {rest : List ℕ} (l : Lexeme) → l.token ≡ bad → Ending rest (l ∷ []) → Ending rest []
   ending_bad l e E = ending_token E (ap is_head e)
 
 -- ## It is what the rules say, where the ends are those of the image

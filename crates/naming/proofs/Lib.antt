@@ -1,12 +1,9 @@
 -- Laws that the proofs of the functions cite.
-pub mod PickLaws
 pub mod StepLaws
-pub mod ToldLaws
 pub mod GatherLaws
 pub mod WhereLaws
 pub mod SeekLaws
-pub mod FrontLaws
-pub mod LeafLaws
+pub mod LongLaws
 pub mod UndefinedLaws
 pub mod WeightLaws
 pub mod HeadLaws

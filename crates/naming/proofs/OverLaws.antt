@@ -16,19 +16,24 @@ use Rattle.notation.specs.Text.{ReadsAs}
 use Rattle.notation.specs.Compile.{count}
 use Rattle.notation.specs.Counts.{weight_of}
 use Rattle.notation.specs.Places.{first_over, is_head, only}
-use Rattle.naming.specs.Found.{found, here_if}
+use Rattle.naming.specs.Found.{found}
 use Rattle.naming.specs.GatheredLaws.{reading}
-use Rattle.naming.specs.declared.found.Found.{Found}
-use Rattle.naming.specs.declared.found.Found.TheVariants.{At, Nowhere}
+use Rattle.std.specs.declared.option.Option as Std
+use Rattle.std.specs.declared.option.Option.TheVariants.{Some, None}
 use Rattle.naming.proofs.WeightLaws.{Light, light_all, light_token, light_head}
 use Rattle.naming.proofs.EndLaws.{Ended, ends, endings, headed, endings_are}
+use Rattle.std.specs.Bool.{then_some}
 
 -- The first that ends past a limit.
-unfoldable pub first_past : ℕ → List (Ended ℕ) → Found
-first_past limit [] = Nowhere
-first_past limit (e ∷ es) = pick (ltb limit e.nodes) (At e.head) (first_past limit es)
+unfoldable pub first_past : ℕ → List (Ended ℕ) → Std.Option ℕ
+first_past limit [] = None
+first_past limit (e ∷ es) = pick (ltb limit e.nodes) (Some e.head) (first_past limit es)
 
-found_pick : (place : Lexeme → ℕ) (b : Bool) (l : Lexeme) (later : Option Lexeme) → found place (pick b (some l) later) ≡ pick b (At (place l)) (found place later)
+picked : (b : Bool) (x : ℕ) → then_some b x ≡ pick b (Some x) None
+picked true x = refl
+picked false x = refl
+
+found_pick : (place : Lexeme → ℕ) (b : Bool) (l : Lexeme) (later : Option Lexeme) → found place (pick b (some l) later) ≡ pick b (Some (place l)) (found place later)
 found_pick place true l later = refl
 found_pick place false l later = refl
 
@@ -39,17 +44,17 @@ module _ (limit : ℕ) (place : Lexeme → ℕ) where
   headed_past k (p ∷ ps) [] = refl
   headed_past k (p ∷ ps) (h ∷ hs) =
       let later = k + count p.body in
-      ap (λ r. pick (ltb limit later) (At (place h)) r) (headed_past later ps hs)
+      ap (λ r. pick (ltb limit later) (Some (place h)) r) (headed_past later ps hs)
       ∙ sym (found_pick place (ltb limit later) h (first_over limit (λ n. n) later ps hs))
 
   -- What is open ends: where the nodes before it are within the limit, it is past the limit or nothing is open.
   ends_past :
       (x k w : ℕ) (es : List (Ended ℕ)) → k ≤ limit
-      → first_past limit (ends x k w ++ es) ≡ pick (ltb limit (k + (w - 1))) (At x) (first_past limit es)
+      → first_past limit (ends x k w ++ es) ≡ pick (ltb limit (k + (w - 1))) (Some x) (first_past limit es)
   unfolding first_past
   ends_past x k w es h = go (eqb w 0) refl
     where
-      go : (b : Bool) → eqb w 0 ≡ b → first_past limit (ends x k w ++ es) ≡ pick (ltb limit (k + (w - 1))) (At x) (first_past limit es)
+      go : (b : Bool) → eqb w 0 ≡ b → first_past limit (ends x k w ++ es) ≡ pick (ltb limit (k + (w - 1))) (Some x) (first_past limit es)
       go true q =
           let z : k + (w - 1) ≤ limit = omega (arith, eqb-true w 0 q) in rw (q, le-ltb limit (k + (w - 1)) z)
       go false q = rw q
@@ -57,7 +62,7 @@ module _ (limit : ℕ) (place : Lexeme → ℕ) where
   -- ## While nothing is past the limit, what is still to come, with what is open, has the first that is
 
   module _ (whole : List Lexeme) where
-    abbrev result : Found
+    abbrev result : Std.Option ℕ
     result = first_past limit (endings place 0 0 0 whole)
 
     pub record Weighing (name nodes weight : ℕ) (ls : List Lexeme) : Type 0 where
@@ -65,9 +70,10 @@ module _ (limit : ℕ) (place : Lexeme → ℕ) where
       pub light : Light nodes weight ls
       pub within : first_past limit (endings place name nodes weight ls) ≡ result
 
-    pub weighing_end : {name nodes weight : ℕ} → Weighing name nodes weight [] → here_if (ltb limit (nodes + (weight - 1))) name ≡ result
+    pub weighing_end : {name nodes weight : ℕ} → Weighing name nodes weight [] → then_some (ltb limit (nodes + (weight - 1))) name ≡ result
     unfolding endings first_past
-    weighing_end {name} {nodes} {weight} W = sym (rw append-nil at (ends_past name nodes weight [] W.low)) ∙ W.within
+    weighing_end {name} {nodes} {weight} W =
+        picked (ltb limit (nodes + (weight - 1))) name ∙ sym (rw append-nil at (ends_past name nodes weight [] W.low)) ∙ W.within
 
     module _ {name nodes weight : ℕ} {l : Lexeme} {ls : List Lexeme} (W : Weighing name nodes weight (l ∷ ls)) where
       pub weighing_token : is_head l.token ≡ false → {w : ℕ} → w ≡ weight_of l.token → Weighing name nodes (weight + w) ls
@@ -77,7 +83,7 @@ module _ (limit : ℕ) (place : Lexeme → ℕ) where
 
       -- A head ends what is open: with it the nodes are k.
       module _ (e : is_head l.token ≡ true) {k : ℕ} (h : k ≡ nodes + (weight - 1)) where
-        closes : pick (ltb limit k) (At name) (first_past limit (endings place (place l) k 0 ls)) ≡ result
+        closes : pick (ltb limit k) (Some name) (first_past limit (endings place (place l) k 0 ls)) ≡ result
         unfolding endings
         closes = rw h (sym (ends_past name nodes weight (endings place (place l) (nodes + (weight - 1)) 0 ls) W.low) ∙ rw e at W.within)
 
@@ -88,7 +94,7 @@ module _ (limit : ℕ) (place : Lexeme → ℕ) where
           within = rw (← q) (rw (le-ltb limit k f) at closes);
         }
 
-        pub weighing_here : limit < k → At name ≡ result
+        pub weighing_here : limit < k → Some name ≡ result
         weighing_here f = rw (lt-ltb limit k f) at closes
 
     -- What is no token weighs nothing.

@@ -1,27 +1,26 @@
 -- What a search among names comes to.
-use Prim.Native.Nat.{ℕ, ◌<◌}
-use mathlib.Core.Path.{◌≡◌, refl, sym, ◌∙◌}
-use mathlib.Core.Bool.{Bool, true, false}
-use mathlib.Core.List.{List}
-use Rattle.notation.specs.At.{name_at}
+use Rattle.std.proofs.Common.{ℕ, ◌≡◌, refl, sym, true, List, Result, Ok, Err}
+use Rattle.std.specs.Result.{is_ok, IsOk}
+use Rattle.notation.specs.LexicalText.{no_way}
+use Rattle.notation.specs.Tree.{Name}
 use Rattle.notation.specs.Naming.{member}
 use Rattle.notation.specs.Compile.{place}
-use Rattle.index.specs.Listed.{names_at, Ascending, Seeks}
+use Rattle.index.specs.Listed.{Ascending, Stands, Seeks}
 use Rattle.index.specs.ListedLaws.{stands_member, stands_place, belongs_member}
-use Rattle.index.specs.declared.list.Sought.{Sought}
 
--- It says whether the name is one of them.
-pub seeks_member : {text at : List ℕ} {count p : ℕ} {r : Sought} → Seeks text at count p r → r.here ≡ member (name_at text p) (names_at text at count)
-seeks_member {text} {at} {count} {p} {r} S = go r.here refl
-  where
-    go : (b : Bool) → r.here ≡ b → r.here ≡ member (name_at text p) (names_at text at count)
-    go true e = e ∙ sym (stands_member (name_at text p) (names_at text at count) r.index (S.found e))
-    go false e = e ∙ sym (belongs_member (name_at text p) (names_at text at count) r.index (S.missing e))
+-- It says whether the name is one of them; and if it is one, it is found.
+module _ (n : Name) (ns : List Name) where
+  pub seeks_member : (r : Result ℕ ℕ) → Seeks n ns r → is_ok r ≡ member n ns
+  seeks_member (Ok i) S = sym (stands_member n ns i S)
+  seeks_member (Err i) B = sym (belongs_member n ns i B)
 
--- And if it is one, where it stands.
-module _ {text at : List ℕ} {count p : ℕ} {r : Sought} (S : Seeks text at count p r) (m : member (name_at text p) (names_at text at count) ≡ true) where
-  pub seeks_inside : r.index < count
-  seeks_inside = S.inside (seeks_member S ∙ m)
+  pub seeks_ok : member n ns ≡ true → (r : Result ℕ ℕ) → Seeks n ns r → IsOk r
+  seeks_ok m (Ok i) S = refl
+  seeks_ok m (Err i) B = let z = belongs_member n ns i B in no_way (cc)
 
-  pub seeks_place : Ascending (names_at text at count) → r.index ≡ place (name_at text p) (names_at text at count)
-  seeks_place a = sym (stands_place (name_at text p) (names_at text at count) r.index (S.found (seeks_member S ∙ m)) a)
+  module _ {r : Result ℕ ℕ} {i : ℕ} (S : Seeks n ns r) (e : r ≡ Ok i) where
+    stands : Stands n ns i
+    stands = rw e at S
+
+    pub seeks_place : Ascending ns → i ≡ place n ns
+    seeks_place a = sym (stands_place n ns i stands a)

@@ -1,39 +1,46 @@
--- The first token of which a test holds, as a pass looks for it: what is still to come has it, while no token before had it.
-use Prim.Native.Nat.{ℕ}
-use mathlib.Core.Path.{◌≡◌, ap, sym, ◌∙◌}
-use mathlib.Core.Bool.{Bool, true, false}
-use mathlib.Core.List.{List, [], ◌∷◌}
-use lib.ListN.{drop}
+-- The first token of which a test holds, as a pass looks for it.
+use Rattle.std.proofs.Common.{ℕ, ◌≡◌, refl, ap, sym, ◌∙◌, Bool, true, false, List}
+use Rattle.std.specs.declared.option.Option as Std
+use Rattle.std.specs.declared.option.Option.TheVariants.{Some, None}
+use Rattle.std.specs.Option.{option_map}
+use Rattle.std.proofs.Math.Option.{Option, some, none}
 use Rattle.notation.specs.Token.{Token, bad, Lexeme}
-use Rattle.notation.specs.Lexer.{lexemes}
-use Rattle.notation.specs.Places.{first_where}
-use Rattle.lexer.specs.Meant.{meant, placed, Lexed}
+use Rattle.notation.specs.Places.{first_where, token_place, name_place}
+use Rattle.lexer.specs.declared.tokens.Tokens.{Tokens}
+use Rattle.lexer.specs.Meant.{meant, placed}
+use Rattle.lexer.specs.Stream.{left, Takes, Ends}
+use Rattle.lexer.proofs.StreamLaws.{ended}
 use Rattle.lexer.specs.declared.token.Token as lexer
-use Rattle.naming.specs.Found.{found}
-use Rattle.naming.specs.Told.{stopped}
-use Rattle.naming.specs.declared.found.Found.{Found}
-use Rattle.naming.specs.declared.found.Found.TheVariants.{At, Nowhere}
-use Rattle.naming.proofs.StepLaws.{steps, over}
+use Rattle.naming.specs.Found.{found, Met, IsOf}
+use Rattle.naming.proofs.StepLaws.{steps, begins, name_is}
 
-module _ (test : Token → Bool) (place : Lexeme → ℕ) (whole : List Lexeme) where
-  abbrev result : Found
-  result = found place (first_where test whole)
+module _ (holds : Token → Bool) where
+  module _ {s : Tokens} {t : lexer.Token} {later : Tokens} (T : Takes s t later) {text : List ℕ} (k : s.text.now ≡ text) where
+    pub where_past : holds (meant text t) ≡ false → first_where holds (left s) ≡ first_where holds (left later)
+    unfolding first_where
+    where_past e = ap (first_where holds) (steps T k) ∙ rw e refl
 
-  abbrev pub Still : List Lexeme → Type 0
-  Still ls = found place (first_where test ls) ≡ result
+    pub where_here : holds (meant text t) ≡ true → first_where holds (left s) ≡ some (placed text t)
+    unfolding first_where
+    where_here e = ap (first_where holds) (steps T k) ∙ rw e refl
 
-  passes : (l : Lexeme) (ls : List Lexeme) → test l.token ≡ false → Still (l ∷ ls) → Still ls
+  pub where_over : {s later : Tokens} → Ends s later → holds bad ≡ false → first_where holds (left s) ≡ none
   unfolding first_where
-  passes l ls e s = rw e at s
+  where_over {s} E b =
+      sym (ended E (λ ls. first_where holds ls ≡ first_where holds (left s)) (λ l e p. rw (ap holds e ∙ b) at p) refl)
 
-  module _ {text : List ℕ} {at : ℕ} {t : lexer.Token} (L : Lexed text at t) (s : Still (lexemes (drop at text))) where
-    pub still_past : stopped t.kind ≡ false → test (meant text t) ≡ false → Still (lexemes (drop t.next text))
-    still_past one e = passes (placed text t) (lexemes (drop t.next text)) e (rw (steps L one) at s)
+-- The place of what was found.
+found_at :
+    (text : List ℕ) (place : Lexeme → ℕ) (field : lexer.Token → ℕ) → ((t : lexer.Token) → Met text t → place (placed text t) ≡ field t)
+    → (o : Option Lexeme) (r : Std.Option lexer.Token) → IsOf text o r → option_map field r ≡ found place o
+found_at text place field h none None f = refl
+found_at text place field h none (Some t) f = elim f [ ]
+found_at text place field h (some l) None f = elim f [ ]
+found_at text place field h (some l) (Some t) f = ap Some (sym (h t f.1) ∙ ap place f.0)
 
-    pub still_here : stopped t.kind ≡ false → test (meant text t) ≡ true → {p : ℕ} → place (placed text t) ≡ p → At p ≡ result
-    unfolding first_where
-    still_here one e h = ap At (sym h) ∙ rw (steps L one, e) at s
+module _ (text : List ℕ) (o : Option Lexeme) (r : Std.Option lexer.Token) (f : IsOf text o r) where
+  pub found_start : option_map (λ t. t.start) r ≡ found (token_place text) o
+  found_start = found_at text (token_place text) (λ t. t.start) (λ t m. begins m) o r f
 
-    pub still_over : stopped t.kind ≡ true → test bad ≡ false → Nowhere ≡ result
-    unfolding first_where
-    still_over e b = over L e Still (λ l k. passes l [] (ap test k ∙ b)) s
+  pub found_name : option_map (λ t. t.name) r ≡ found (name_place text) o
+  found_name = found_at text (name_place text) (λ t. t.name) (λ t m. name_is m) o r f

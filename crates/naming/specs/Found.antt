@@ -1,21 +1,26 @@
--- Places that were found.
-use Rattle.std.specs.Prelude.{ℕ, Bool}
+-- Places that were found, and tokens.
+use Rattle.std.specs.Prelude.{ℕ, ◌≡◌, List}
+use Rattle.std.specs.declared.option.Option as Std
+use Rattle.std.specs.declared.option.Option.TheVariants.{Some, None}
 use Rattle.std.proofs.Math.Option.{Option, some, none}
-use Rattle.format.specs.Reading.{pick}
 use Rattle.notation.specs.Token.{Lexeme}
-use Rattle.naming.specs.declared.found.Found.{Found}
-use Rattle.naming.specs.declared.found.Found.TheVariants.{At, Nowhere}
+use Rattle.lexer.specs.Meant.{placed, IsToken, Lexed}
+use Rattle.lexer.specs.declared.token.Token.{Token}
 
 -- The place of a lexeme, if there is one.
-abbrev pub found : (Lexeme → ℕ) → Option Lexeme → Found
-found place none = Nowhere
-found place (some l) = At (place l)
+abbrev pub found : (Lexeme → ℕ) → Option Lexeme → Std.Option ℕ
+found place none = None
+found place (some l) = Some (place l)
 
--- A place, if a test holds of it.
-abbrev pub here_if : Bool → ℕ → Found
-here_if holds place = pick holds (At place) Nowhere
+-- A token of a text, with a place from which on it is the first.
+pub record Met (text : List ℕ) (t : Token) : Type 0 where
+  pub from : ℕ
+  pub lexed : Lexed text from t
+  pub one : IsToken t.kind
 
--- The first of two.
-abbrev pub or_else : Found → Found → Found
-or_else (At p) later = At p
-or_else Nowhere later = later
+-- A token is this lexeme, if there is one.
+abbrev pub IsOf : (text : List ℕ) → Option Lexeme → Std.Option Token → Type 0
+IsOf text none None = Unit
+IsOf text (some l) (Some t) = (placed text t ≡ l) × Met text t
+IsOf text none (Some t) = ⊥
+IsOf text (some l) None = ⊥

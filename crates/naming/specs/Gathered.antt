@@ -1,6 +1,7 @@
 -- Names in byte order, each once, as lexemes name them one after the other.
-use Rattle.std.specs.Prelude.{ℕ, ◌≤◌, ◌≡◌, List, [], ◌∷◌, eqb, length}
-use Rattle.format.specs.Reading.{pick}
+use Rattle.std.specs.Prelude.{ℕ, ◌≤◌, ◌≡◌, List, [], ◌∷◌, length}
+use Rattle.std.specs.Option.{option_or}
+use Rattle.std.specs.Bool.{then_some}
 use Rattle.notation.specs.Tree.{Name}
 use Rattle.notation.specs.Token.{Token, Lexeme}
 use Rattle.notation.specs.Lexer.{lexemes}
@@ -9,12 +10,16 @@ use Rattle.notation.specs.Compile.{insert}
 use Rattle.notation.specs.Uses.{head_of, def_of, switch_of}
 use Rattle.notation.specs.Places.{first_name, again, ninth, name_place}
 use Rattle.index.specs.Listed.{names_at}
-use Rattle.naming.specs.Found.{found, here_if, or_else}
+use Rattle.naming.specs.Found.{found}
 use Rattle.naming.specs.declared.gather.Gathered.{Gathered}
+use Rattle.naming.specs.declared.gather.Sort.{Sort}
+use Rattle.naming.specs.declared.gather.Sort.TheVariants.{Productions, Tables, Conditions}
 
--- The names of a sort: 0 those of productions, 1 those of the tables that are defined, 2 those of conditions.
-abbrev pub sort_of : ℕ → Token → List Name
-sort_of sort = pick (eqb sort 0) head_of (pick (eqb sort 1) def_of switch_of)
+-- The names of a sort that a token says.
+abbrev pub sort_of : Sort → Token → List Name
+sort_of Productions = head_of
+sort_of Tables = def_of
+sort_of Conditions = switch_of
 
 -- Names put among others, one after the other.
 unfoldable pub inserted : List Name → List Name → List Name
@@ -39,5 +44,5 @@ pub record Adds (text at : List ℕ) (g : Gathered) (p : ℕ) (now : List ℕ) (
   pub listed : names_at text now r.count ≡ insert (name_at text p) (names_at text at g.count)
   pub within : r.count ≤ length now
   pub long : length now ≡ length at
-  pub again : r.again ≡ or_else g.again (here_if (again (names_at text at g.count) (name_at text p)) p)
-  pub ninth : r.ninth ≡ or_else g.ninth (here_if (ninth (names_at text at g.count) (name_at text p)) p)
+  pub again : r.again ≡ option_or g.again (then_some (again (names_at text at g.count) (name_at text p)) p)
+  pub ninth : r.ninth ≡ option_or g.ninth (then_some (ninth (names_at text at g.count) (name_at text p)) p)

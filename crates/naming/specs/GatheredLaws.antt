@@ -1,5 +1,5 @@
 -- What is gathered is what the naming rules and `compile` go by.
-use Rattle.std.specs.Prelude.{ℕ, suc, ◌*◌, ◌≤◌, ◌≡◌, refl, Bool, true, false, List, [], ◌∷◌, ◌++◌, map, eqb, length}
+use Rattle.std.specs.Prelude.{ℕ, suc, ◌*◌, ◌≤◌, ◌≡◌, refl, true, List, [], ◌∷◌, ◌++◌, map, length}
 use Rattle.std.proofs.Common.{ap, sym, ◌∙◌, append_assoc, append-nil, arith}
 use Rattle.notation.specs.Tree.{Name, Production}
 use Rattle.notation.specs.Token.{Token, Lexeme, bare}
@@ -16,6 +16,8 @@ use Rattle.notation.specs.OrderLaws.{sorted_ascending, sorted_added}
 use Rattle.index.specs.ListedLaws.{sorted_shorter}
 use Rattle.naming.specs.BoundLaws.{defines, names_bound}
 use Rattle.naming.specs.Gathered.{sort_of, inserted, gathered}
+use Rattle.naming.specs.declared.gather.Sort as Sort
+use Rattle.naming.specs.declared.gather.Sort.TheVariants as Variants
 
 -- ## No name is lost
 
@@ -82,15 +84,12 @@ module _ {text : List ℕ} {ps : List Production} (r : ReadsAs text ps) where
 
 -- ## HOW MANY: at most half as many as the text has bytes
 
-sort_small : (sort : ℕ) (t : Token) → length (sort_of sort t) ≤ defines t
-sort_small sort t = go (eqb sort 0) (eqb sort 1) refl refl
-  where
-    go : (a b : Bool) → eqb sort 0 ≡ a → eqb sort 1 ≡ b → length (sort_of sort t) ≤ defines t
-    go true b p q = rw p (omega arith)
-    go false true p q = rw (p, q) (omega arith)
-    go false false p q = rw (p, q) (omega arith)
+sort_small : (sort : Sort.Sort) (t : Token) → length (sort_of sort t) ≤ defines t
+sort_small Variants.Productions t = omega arith
+sort_small Variants.Tables t = omega arith
+sort_small Variants.Conditions t = omega arith
 
-pub gathered_bound : (sort : ℕ) (text : List ℕ) → 2 * length (gathered (sort_of sort) [] (lexemes text)) ≤ length text
+pub gathered_bound : (sort : Sort.Sort) (text : List ℕ) → 2 * length (gathered (sort_of sort) [] (lexemes text)) ≤ length text
 gathered_bound sort text =
     let f = sort_of sort in
     rw (gathered_sorted f (lexemes text))

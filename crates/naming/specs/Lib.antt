@@ -1,6 +1,6 @@
 -- What the passes over a text's tokens promise.
-pub mod Found
 pub mod Told
+pub mod Found
 pub mod Gathered
 pub mod BoundLaws
 pub mod GatheredLaws

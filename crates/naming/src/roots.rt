@@ -4,11 +4,10 @@ ghost use Rattle.notation.specs.Tree.{Production};
 ghost use Rattle.notation.specs.Text.{ReadsAs};
 ghost use Rattle.naming.specs.Rooted.{Rootable, Rooted, Listed, root_at, Settles, Settled};
 
-use crate::number::wide;
-use crate::told::stops;
 use crate::weight::{closed, weight_of};
 use index::list::seek;
-use lexer::token::token_from;
+use lexer::token::{Kind, token_from};
+use lexer::tokens::Tokens;
 
 // All nodes, and the first production's own.
 #[derive(Clone, Copy)]
@@ -22,9 +21,8 @@ fn root_of(text: &[u8], heads: &[u16], roots: &[u16], name: usize) -> usize
     requires { Listed text.now heads.now roots.now name }
     ensures { result ≡ get_or roots.now (root_at text.now heads.now name) 0 }
 {
-    let sought = seek(text, heads, heads.len(), name);
-    let index = sought.index;
-    wide(roots[index])
+    let index = seek(text, heads, name).unwrap();
+    usize::from(roots[index])
 }
 
 // Keeps the last node before an end for the name at a place.
@@ -32,10 +30,8 @@ fn put_root(text: &[u8], heads: &[u16], roots: &mut [u16], name: usize, end: usi
     requires { Listed text.now heads.now roots.old name × (1 ≤ end) × (end ≤ 512) }
     ensures { roots.new ≡ set roots.old (root_at text.now heads.now name) (end - 1) }
 {
-    let sought = seek(text, heads, heads.len(), name);
-    let index = sought.index;
-    let root = end - 1;
-    roots[index] = root as u16;
+    let index = seek(text, heads, name).unwrap();
+    roots[index] = (end - 1) as u16;
 }
 
 // Ends the production that is open, if one is, and gives the nodes up to its end.
@@ -63,29 +59,21 @@ pub fn fill_roots(text: &[u8], heads: &[u16], roots: &mut [u16]) -> Counted
     ensures { (ps : List Production) → ReadsAs text.now ps
         → Rooted text.now heads.now roots.new result ps }
 {
-    let first = token_from(text, 0);
-    let start = first.name;
-    let mut at = 0;
+    let start = token_from(text, 0).name;
     let mut nodes = 0;
     let mut weight = 0;
     let mut name = start;
-    loop {
-        let t = token_from(text, at);
-        let kind = t.kind;
-        if stops(kind) {
-            nodes = settle(text, heads, roots, name, nodes, weight);
-            return Counted {
-                nodes: nodes,
-                start: root_of(text, heads, roots, start),
-            };
-        }
-        if kind == 1 {
+    for t in Tokens::new(text) {
+        if t.kind == Kind::Head {
             nodes = settle(text, heads, roots, name, nodes, weight);
             weight = 0;
             name = t.name;
         } else {
             weight += weight_of(text, t);
         }
-        at = t.next;
+    }
+    Counted {
+        nodes: settle(text, heads, roots, name, nodes, weight),
+        start: root_of(text, heads, roots, start),
     }
 }

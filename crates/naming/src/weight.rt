@@ -2,47 +2,32 @@
 ghost use Rattle.std.specs.Prelude.{◌≡◌, ◌+◌, ◌-◌, ◌≤◌};
 ghost use Rattle.notation.specs.Counts.{weight_of};
 ghost use Rattle.lexer.specs.Meant.{meant};
-ghost use Rattle.naming.specs.Told.{Spelt, Parted};
+ghost use Rattle.naming.specs.Found.{Met};
+ghost use Rattle.naming.specs.Told.{weight_by};
 
 use chars::class::class_size;
-use lexer::token::Token;
+use lexer::token::{Kind, Leaf, Suffix, Token};
 
-// The weight of what holds no expression: a class weighs twice as much as it has parts, and anything else 2.
-fn leaf_weight(text: &[u8], t: Token) -> usize
-    requires { (t.kind ≡ 5) × Spelt text.now t.start (meant text.now t) × Parted text.now t }
-    ensures { result ≡ weight_of (meant text.now t) }
+// The weight of what is no class.
+fn weight_by(kind: Kind) -> usize
+    ensures { result ≡ weight_by kind }
 {
-    if t.symbol != 3 {
-        return 2;
+    match kind {
+        Kind::Leaf(_) | Kind::And | Kind::After(Suffix::Option | Suffix::Plus) => 2,
+        Kind::Opens(_) | Kind::Not | Kind::After(Suffix::Star) => 1,
+        _ => 0,
     }
-    class_size(text, t.start) * 2
 }
 
-// The weight of a token.
+// The weight of a token: a class weighs twice as much as it has parts.
 pub(crate) fn weight_of(text: &[u8], t: Token) -> usize
-    requires { Spelt text.now t.start (meant text.now t) × Parted text.now t }
+    requires { Met text.now t }
     ensures { result ≡ weight_of (meant text.now t) }
 {
-    let kind = t.kind;
-    if kind == 5 {
-        return leaf_weight(text, t);
+    if t.kind == Kind::Leaf(Leaf::Class) {
+        return class_size(text, t.start) * 2;
     }
-    if kind == 6 {
-        return 1;
-    }
-    if kind == 8 {
-        return 2;
-    }
-    if kind == 9 {
-        return 1;
-    }
-    if kind != 10 {
-        return 0;
-    }
-    if t.symbol == 18 {
-        return 1;
-    }
-    2
+    weight_by(t.kind)
 }
 
 // The nodes up to the end of a production: those before it, and one less than it weighs. Nothing is open where nothing weighs.
@@ -50,8 +35,5 @@ pub(crate) fn closed(nodes: usize, weight: usize) -> usize
     requires { nodes + weight ≤ 131070 }
     ensures { result ≡ nodes + (weight - 1) }
 {
-    if weight == 0 {
-        return nodes;
-    }
-    nodes + (weight - 1)
+    nodes + weight.saturating_sub(1)
 }

@@ -1,61 +1,33 @@
 // The symbols held, one line each: table, start, end and text.
-use std::io;
+use std::{fmt, io};
 
 // The first `symbols` of the slots, oldest first.
-pub fn list(out: &impl Print, input: &[u8], slots: &[u32; 768], symbols: u32) -> io::Result<()> {
-    for i in 0..256u32 {
-        if i < symbols {
-            line(
-                out,
-                input,
-                slots[(3 * i) as usize],
-                slots[(3 * i + 1) as usize],
-                slots[(3 * i + 2) as usize],
-            )?;
+pub fn list(out: &impl Print, input: &[u8], slots: &[u32], symbols: usize) -> io::Result<()> {
+    let (slots, _) = slots.as_chunks::<3>();
+    for [table, start, end] in slots.iter().take(symbols) {
+        print!(out; "{table} {start} {end} ")?;
+        if let Some(text) = input.get(*start as usize..*end as usize) {
+            print!(out; "{}", Quoted(text))?;
         }
+        println!(out)?;
     }
     Ok(())
 }
 
-fn line(out: &impl Print, input: &[u8], table: u32, start: u32, end: u32) -> io::Result<()> {
-    print!(out; "{table} {start} {end} ")?;
-    text(out, input, start as usize, end as usize)?;
-    out.write_all(b"\n")
-}
+// A part of the input, in quotes: bytes that can be read as they are, a quote and a backslash behind a backslash, any other in hexadecimal.
+#[derive(Clone, Copy)]
+struct Quoted<'a>(&'a [u8]);
 
-// A part of the input, in quotes.
-fn text(out: &impl Print, input: &[u8], start: usize, end: usize) -> io::Result<()> {
-    if input.len() < end {
-        return Ok(());
+impl fmt::Display for Quoted<'_> {
+    fn fmt<W: fmt::Write>(&self, f: &mut fmt::Formatter<W>) -> fmt::Result {
+        f.write_str("\"")?;
+        for &b in self.0 {
+            match b {
+                b'"' | b'\\' => write!(f, "\\{}", char::from(b))?,
+                b' '..=b'~' => write!(f, "{}", char::from(b))?,
+                _ => write!(f, "\\x{b:02x}")?,
+            }
+        }
+        f.write_str("\"")
     }
-    if end < start {
-        return Ok(());
-    }
-    let bytes = &input[start..end];
-    out.write_all(b"\"")?;
-    for b in bytes {
-        byte(out, *b)?;
-    }
-    out.write_all(b"\"")
-}
-
-// A byte that can be read as it is; a quote, a backslash and any other byte behind a backslash.
-fn byte(out: &impl Print, b: u8) -> io::Result<()> {
-    if b < 32 {
-        return hex(out, b);
-    }
-    if 126 < b {
-        return hex(out, b);
-    }
-    if b == b'"' {
-        out.write_all(b"\\")?;
-    }
-    if b == b'\\' {
-        out.write_all(b"\\")?;
-    }
-    out.write_all(&[b])
-}
-
-fn hex(out: &impl Print, b: u8) -> io::Result<()> {
-    print!(out; "\\x{b:02x}")
 }

@@ -3,120 +3,118 @@
 
 mod held;
 
-use files::{Taken, argument};
+use files::{TakeError, argument};
 use std::env::Env;
 use std::io;
 use std::rt::Files;
-use yarnspire::Answer;
+use yarnspire::{Answer, Limits};
 
-// Runs the two files that the arguments name, or `rules` and `text` where there is no argument. With `names` the symbols held are listed below
-// the answer.
+// What is written of an answer: its line alone, or below it the symbols held.
+#[derive(Clone, Copy)]
+pub enum Listing {
+    Answer,
+    Names,
+}
+
+// Runs the two files that the arguments name, or `rules` and `text` where there is no argument.
 pub fn program(
     rt: &(impl Env + Files + Print),
     err: &impl Print,
-    usage: &[u8],
-    names: bool,
+    usage: &str,
+    listing: Listing,
 ) -> io::Result<()> {
     if !argument::given(rt, 1) {
-        return read_rules(rt, err, b"rules", b"text", names);
+        return recognise(rt, err, b"rules", b"text", listing);
     }
     if !argument::given(rt, 2) || argument::given(rt, 3) {
-        return err.write_all(usage);
+        return print!(err; "usage: {usage}\n");
     }
     let mut rules = [0u8; 4096];
-    let long = match argument::word(rt, 1, &mut rules) {
-        Ok(n) => n,
-        Err(why) => return files::fail(err, b"the first name", why),
+    let Some(rules) = word(rt, err, 1, b"the first name", &mut rules)? else {
+        return Ok(());
     };
     let mut text = [0u8; 4096];
-    let wide = match argument::word(rt, 2, &mut text) {
-        Ok(n) => n,
-        Err(why) => return files::fail(err, b"the second name", why),
+    let Some(text) = word(rt, err, 2, b"the second name", &mut text)? else {
+        return Ok(());
     };
-    read_rules(rt, err, &rules[..long], &text[..wide], names)
+    recognise(rt, err, rules, text, listing)
 }
 
-// A file that cannot be opened counts as empty, and standard error says so; one that cannot be read to its end gets no answer. One byte more
-// than an image may have is enough to see that it has too many.
-fn read_rules(
+// The word of this number, which is `what`; where there is no room for it, standard error says so.
+fn word<'a>(
+    env: &impl Env,
+    err: &impl Print,
+    i: usize,
+    what: &[u8],
+    room: &'a mut [u8],
+) -> io::Result<Option<&'a [u8]>> {
+    match argument::word(env, i, room) {
+        Ok(n) => Ok(Some(&room[..n])),
+        Err(why) => {
+            files::fail(err, what, why)?;
+            Ok(None)
+        }
+    }
+}
+
+// Runs a file of rules on a file of text. One byte more than either may have is enough to see that it has too many.
+fn recognise(
     rt: &(impl Files + Print),
     err: &impl Print,
     rules: &[u8],
     text: &[u8],
-    names: bool,
+    listing: Listing,
 ) -> io::Result<()> {
     let mut image = [0u8; 16385];
-    let taken = files::take(rt, rules, &mut image);
-    match taken {
-        Taken::Bytes(n) => read_text(rt, err, &image[..n], text, names),
-        Taken::Unopened(why) => {
-            files::fail(err, rules, why)?;
-            read_text(rt, err, b"", text, names)
-        }
-        Taken::Unread(why) => files::fail(err, rules, why),
-    }
-}
-
-// Likewise, for the input.
-fn read_text(
-    rt: &(impl Files + Print),
-    err: &impl Print,
-    image: &[u8],
-    text: &[u8],
-    names: bool,
-) -> io::Result<()> {
+    let Some(image) = taken(rt, err, rules, &mut image)? else {
+        return Ok(());
+    };
     let mut input = [0u8; 65536];
-    let taken = files::take(rt, text, &mut input);
-    match taken {
-        Taken::Bytes(n) => answer(rt, image, &input[..n], names),
-        Taken::Unopened(why) => {
-            files::fail(err, text, why)?;
-            answer(rt, image, b"", names)
-        }
-        Taken::Unread(why) => files::fail(err, text, why),
-    }
+    let Some(input) = taken(rt, err, text, &mut input)? else {
+        return Ok(());
+    };
+    answer(rt, image, input, listing)
 }
 
-fn number(out: &impl Print, before: &[u8], n: u32) -> io::Result<()> {
-    out.write_all(before)?;
-    print!(out; "{n}")
+// What a file has. One that cannot be opened counts as empty, and standard error says so; one that cannot be read to its end gets no answer.
+fn taken<'a>(
+    files: &impl Files,
+    err: &impl Print,
+    path: &[u8],
+    room: &'a mut [u8],
+) -> io::Result<Option<&'a [u8]>> {
+    match files::take(files, path, room) {
+        Ok(n) => Ok(Some(&room[..n])),
+        Err(TakeError::Unopened(why)) => {
+            files::fail(err, path, why)?;
+            Ok(Some(&[]))
+        }
+        Err(TakeError::Unread(why)) => {
+            files::fail(err, path, why)?;
+            Ok(None)
+        }
+    }
 }
 
 // The answer's line, and below it the symbols held.
-fn answer(out: &impl Print, image: &[u8], input: &[u8], names: bool) -> io::Result<()> {
+fn answer(out: &impl Print, image: &[u8], input: &[u8], listing: Listing) -> io::Result<()> {
     let mut slots = [0u32; 768];
-    let answer = yarnspire::recognise(image, input, 1000000, 256, 256, &mut slots);
-    match answer {
+    match yarnspire::recognise(image, input, Limits::GREATEST, &mut slots) {
         Answer::Accepted {
             consumed,
             steps,
             depth,
             symbols,
         } => {
-            number(out, b"accept ", consumed)?;
-            number(out, b" ", steps)?;
-            number(out, b" ", depth)?;
-            number(out, b" ", symbols)?;
-            out.write_all(b"\n")?;
-            if names {
-                held::list(out, input, &slots, symbols)?;
+            println!(out; "accept {consumed} {steps} {depth} {symbols}")?;
+            match listing {
+                Listing::Answer => Ok(()),
+                Listing::Names => held::list(out, input, &slots, symbols as usize),
             }
-            Ok(())
         }
-        Answer::Failed { steps, depth } => {
-            number(out, b"fail ", steps)?;
-            number(out, b" ", depth)?;
-            out.write_all(b"\n")
-        }
-        Answer::Refused {
-            number: why,
-            place,
-            steps: _,
-            depth: _,
-        } => {
-            number(out, b"refuse ", why)?;
-            number(out, b" ", place)?;
-            out.write_all(b"\n")
+        Answer::Failed { steps, depth } => println!(out; "fail {steps} {depth}"),
+        Answer::Refused { refusal, place, .. } => {
+            println!(out; "refuse {} {place}", refusal.number())
         }
     }
 }

@@ -1,3 +1,2 @@
 -- Laws that the proofs of several functions cite.
-pub mod ByteLaws
-pub mod CopyLaws
+pub mod FrontLaws

@@ -1,29 +1,45 @@
 -- An outcome in one number: place in 16 bits, symbols held in 9, depth in 9, steps in 26, and the kind above them. So a passed outcome is less than
 -- 2 ^ 60, and is at once the number that the next expression starts from.
-use Rattle.std.specs.Prelude.{ℕ, ◌+◌, ◌*◌, ◌/◌, ◌%◌, ltb}
+use Rattle.std.specs.Prelude.{ℕ, ◌+◌, ◌*◌, ◌/◌, ◌%◌, eqb, ltb}
 use Rattle.format.specs.Reading.{pick}
+use Rattle.parts.specs.declared.outcome.Stop.{Stop}
+use Rattle.parts.specs.declared.outcome.Stop.TheVariants.{Steps, Depth, Room, Round}
 use Rattle.parts.specs.declared.outcome.Outcome.{Outcome}
 use Rattle.parts.specs.declared.outcome.Outcome.TheVariants.{Passed, Failed, Refused}
+use Rattle.parts.specs.declared.outcome.Packed.{Packed}
 
-abbrev pub packed : (kind at held steps depth : ℕ) → ℕ
-packed kind at held steps depth = at + held * 65536 + depth * 33554432 + steps * 17179869184 + kind * 1152921504606846976
+-- 01, "Refusal numbers": 12 "step limit", 13 "depth limit", 14 "room", 15 "empty round".
+abbrev pub number_of : Stop → ℕ
+number_of Steps = 12
+number_of Depth = 13
+number_of Room = 14
+number_of Round = 15
+
+abbrev pub stop_of : ℕ → Stop
+stop_of n = pick (eqb n 12) Steps (pick (eqb n 13) Depth (pick (eqb n 14) Room Round))
+
+abbrev pub bits_of : (kind at held steps depth : ℕ) → ℕ
+bits_of kind at held steps depth = at + held * 65536 + depth * 33554432 + steps * 17179869184 + kind * 1152921504606846976
+
+abbrev pub packed : (kind at held steps depth : ℕ) → Packed
+packed kind at held steps depth = record { bits = bits_of kind at held steps depth }
 
 -- What a number has of each part, but of the steps only a passed one.
-unfoldable pub at_of : ℕ → ℕ
-at_of r = r % 65536
+unfoldable pub at_of : Packed → ℕ
+at_of r = r.bits % 65536
 
-unfoldable pub held_of : ℕ → ℕ
-held_of r = r / 65536 % 512
+unfoldable pub held_of : Packed → ℕ
+held_of r = r.bits / 65536 % 512
 
-unfoldable pub depth_of : ℕ → ℕ
-depth_of r = r / 33554432 % 512
+unfoldable pub depth_of : Packed → ℕ
+depth_of r = r.bits / 33554432 % 512
 
-unfoldable pub steps_of : ℕ → ℕ
-steps_of r = r / 17179869184
+unfoldable pub steps_of : Packed → ℕ
+steps_of r = r.bits / 17179869184
 
--- By its kind, which is above 2 ^ 60: 0 passed, 1 failed, else the refusal's number.
-unfoldable pub opened_of : ℕ → Outcome
+-- By its kind, which is above 2 ^ 60: 0 passed, 1 failed, else the number of what stopped the run.
+unfoldable pub opened_of : Packed → Outcome
 opened_of r =
-    pick (ltb r 1152921504606846976) (Passed (at_of r) (held_of r) (steps_of r) (depth_of r))
-    (pick (ltb r 2305843009213693952) (Failed (r / 17179869184 % 67108864) (depth_of r))
-    (Refused (r / 1152921504606846976) (at_of r) (r / 17179869184 % 67108864) (depth_of r)))
+    pick (ltb r.bits 1152921504606846976) (Passed (at_of r) (held_of r) (steps_of r) (depth_of r))
+    (pick (ltb r.bits 2305843009213693952) (Failed (r.bits / 17179869184 % 67108864) (depth_of r))
+    (Refused (stop_of (r.bits / 1152921504606846976)) (at_of r) (r.bits / 17179869184 % 67108864) (depth_of r)))

@@ -1,6 +1,6 @@
 -- A table's list, found in the slot buffer: the latest symbol is where `latest_of` says, and the rest of the list is what lies below it.
 use Prim.Native.Nat.{ℕ, zero, suc, ◌-◌, ◌*◌, ◌≤◌, ◌<◌}
-use Rattle.std.specs.Prelude.{◌≡◌, Bool, ltb, drop, get_or}
+use Rattle.std.specs.Prelude.{◌≡◌, Bool, Option, None, Some, is_some, ltb, drop, get_or}
 use Rattle.std.proofs.Math.Path.{refl, ap}
 use Rattle.std.proofs.Common.{sym, ◌∙◌, subst, arith, drop_of_length-le, eq-eqb, ne_eqb, ltb-true, ltb-false}
 use Rattle.std.proofs.Math.Bool.{true, false}
@@ -35,11 +35,11 @@ module _ (table low : ℕ) (slots : List ℕ) where
       go false = refl
 
   -- There is none exactly if the list is empty; else the list begins with the latest and goes on with the list below it.
-  pub data Latest (h : ℕ) : ℕ → Type 0 where
-    none : listed h ≡ [] → Latest h 0
-    found : {k : ℕ} → low ≤ k → k < h → listed h ≡ symbol_at slots k ∷ listed k → Latest h (suc k)
+  pub data Latest (h : ℕ) : Option ℕ → Type 0 where
+    none : listed h ≡ [] → Latest h None
+    found : {k : ℕ} → low ≤ k → k < h → listed h ≡ symbol_at slots k ∷ listed k → Latest h (Some k)
 
-  passed_by : (h : ℕ) {n : ℕ} → listed (suc h) ≡ listed h → Latest h n → Latest (suc h) n
+  passed_by : (h : ℕ) {n : Option ℕ} → listed (suc h) ≡ listed h → Latest h n → Latest (suc h) n
   passed_by h e (none f) = none (e ∙ f)
   passed_by h e (found l m f) = found l (omega (arith, m)) (e ∙ f)
 
@@ -49,49 +49,51 @@ module _ (table low : ℕ) (slots : List ℕ) where
   latest_is (suc h) = go (ltb h low) refl (latest_is h)
     where
       this : low ≤ h → (b : Bool) → eqb (get_or slots (h * 3) 0) table ≡ b → Latest h (latest_of table low h slots)
-          → Latest (suc h) (pick b (suc h) (latest_of table low h slots))
+          → Latest (suc h) (pick b (Some h) (latest_of table low h slots))
       this l true e r = found l (omega arith) (listed_step h l ∙ ap (λ b. pick b (symbol_at slots h ∷ listed h) (listed h)) e)
       this l false e r = passed_by h (listed_step h l ∙ ap (λ b. pick b (symbol_at slots h ∷ listed h) (listed h)) e) r
 
       go : (b : Bool) → ltb h low ≡ b → Latest h (latest_of table low h slots)
-          → Latest (suc h) (pick b 0 (pick (eqb (get_or slots (h * 3) 0) table) (suc h) (latest_of table low h slots)))
+          → Latest (suc h) (pick b None (pick (eqb (get_or slots (h * 3) 0) table) (Some h) (latest_of table low h slots)))
       go true e r = none (below_floor (suc h) (ltb-true h low e))
       go false e r = this (ltb-false h low e) (eqb (get_or slots (h * 3) 0) table) refl r
 
-  pub latest_below : {h n : ℕ} → Latest h n → n ≤ h
-  latest_below (none e) = omega arith
-  latest_below (found l m e) = omega (arith, m)
+  pub latest_below : {h k : ℕ} → Latest h (Some k) → k < h
+  latest_below (found l m e) = m
 
 -- Nothing is seen, or the list begins with what is seen.
-module _ (table low : ℕ) (slots : List ℕ) (held : ℕ) {seen : ℕ} (e : seen ≡ latest_of table low held slots) where
+module _ (table low : ℕ) (slots : List ℕ) (held : ℕ) {seen : Option ℕ} (e : seen ≡ latest_of table low held slots) where
   seeing : Latest table low slots held seen
   seeing = subst (Latest table low slots held) (sym e) (latest_is table low slots held)
 
-  pub seen_none : seen ≡ 0 → listed table low slots held ≡ []
-  seen_none z = go seeing z
+  pub seen_none : seen ≡ None → listed table low slots held ≡ []
+  seen_none z = go (subst (Latest table low slots held) z seeing)
     where
-      go : {n : ℕ} → Latest table low slots held n → n ≡ 0 → listed table low slots held ≡ []
-      go (none f) z = f
-      go (found l m f) z = absurd (omega arith)
+      go : Latest table low slots held None → listed table low slots held ≡ []
+      go (none f) = f
 
-  pub seen_below : seen ≤ held
-  seen_below = latest_below table low slots seeing
+  module _ {k : ℕ} (s : seen ≡ Some k) where
+    one : Latest table low slots held (Some k)
+    one = subst (Latest table low slots held) s seeing
 
-  pub seen_front : 0 < seen → listed table low slots held ≡ symbol_at slots (seen - 1) ∷ listed table low slots (seen - 1)
-  seen_front l = go seeing l
+    pub seen_below : k < held
+    seen_below = go one
+      where
+        go : Latest table low slots held (Some k) → k < held
+        go (found l m f) = m
+
+    pub seen_front : listed table low slots held ≡ symbol_at slots k ∷ listed table low slots k
+    seen_front = go one
+      where
+        go : Latest table low slots held (Some k) → listed table low slots held ≡ symbol_at slots k ∷ listed table low slots k
+        go (found l m f) = f
+
+  pub seen_some : is_some seen ≡ some (listed table low slots held)
+  seen_some = go seeing
     where
-      go : {n : ℕ} → Latest table low slots held n → 0 < n → listed table low slots held ≡ symbol_at slots (n - 1) ∷ listed table low slots (n - 1)
-      go (none f) l = absurd (omega arith)
-      go (found {k} i m f) l =
-          let z : k ≡ suc k - 1 = omega arith in
-          f ∙ ap (λ k. symbol_at slots k ∷ listed table low slots k) z
-
-  pub seen_some : ltb 0 seen ≡ some (listed table low slots held)
-  seen_some = go (ltb 0 seen) refl
-    where
-      go : (b : Bool) → ltb 0 seen ≡ b → ltb 0 seen ≡ some (listed table low slots held)
-      go true h = h ∙ sym (ap some (seen_front (ltb-true 0 seen h)))
-      go false h = h ∙ sym (ap some (seen_none (omega (arith, ltb-false 0 seen h))))
+      go : {n : Option ℕ} → Latest table low slots held n → is_some n ≡ some (listed table low slots held)
+      go (none f) = ap some (sym f)
+      go (found l m f) = ap some (sym f)
 
 -- A walk through a table's list, from the latest symbol down: whether some symbol of it has these bytes.
 module _ (x bytes : List ℕ) (table low : ℕ) (slots : List ℕ) where

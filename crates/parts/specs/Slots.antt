@@ -1,9 +1,14 @@
 -- The slot buffer as the machine uses it: three numbers a held symbol, oldest first.
-use Rattle.std.specs.Prelude.{ℕ, zero, suc, ◌+◌, ◌*◌, ◌≤◌, ◌<◌, ◌≡◌, List, [], ◌∷◌, ◌++◌, eqb, ltb, length, drop, get_or, set}
+use Rattle.std.specs.Prelude.{ℕ, zero, suc, ◌+◌, ◌*◌, ◌≤◌, ◌<◌, ◌≡◌, List, [], ◌∷◌, ◌++◌, Option, None, Some, eqb, ltb, length, drop, get_or, set}
 use Rattle.format.specs.Reading.{pick}
 use Rattle.meaning.specs.State.{Symbol, State, others}
 use Rattle.meaning.specs.Rules.{symbol}
 use Rattle.meaning.specs.Inside.{Part}
+use Rattle.parts.specs.declared.slots.Symbol as held
+
+-- What a symbol that was read stands for.
+abbrev pub meant : held.Symbol → Symbol
+meant s = symbol s.table s.start s.end
 
 -- The symbol of a number, and the first h symbols.
 abbrev pub symbol_at : List ℕ → ℕ → Symbol
@@ -17,10 +22,10 @@ symbols (suc h) slots = symbols h slots ++ (symbol_at slots h ∷ [])
 abbrev pub putting : List ℕ → (h table from to : ℕ) → List ℕ
 putting slots h table from to = set (set (set slots (h * 3) table) (h * 3 + 1) from) (h * 3 + 2) to
 
--- One more than the number of the latest symbol of a table among those from `low` up to `held`; 0 if there is none.
-unfoldable pub latest_of : (table low held : ℕ) → List ℕ → ℕ
-latest_of table low zero slots = 0
-latest_of table low (suc h) slots = pick (ltb h low) 0 (pick (eqb (get_or slots (h * 3) 0) table) (suc h) (latest_of table low h slots))
+-- The number of the latest symbol of a table among those from `low` up to `held`, if there is one.
+unfoldable pub latest_of : (table low held : ℕ) → List ℕ → Option ℕ
+latest_of table low zero slots = None
+latest_of table low (suc h) slots = pick (ltb h low) None (pick (eqb (get_or slots (h * 3) 0) table) (Some h) (latest_of table low h slots))
 
 -- Nothing below a number of symbols is written, and the buffer keeps its length.
 pub record Below (mark : ℕ) (before after : List ℕ) : Type 0 where

@@ -1,10 +1,10 @@
 -- Laws of the slot buffer.
 use Prim.Native.Nat.{ℕ, zero, suc, ◌+◌, ◌-◌, ◌*◌, ◌≤◌, ◌<◌}
-use Rattle.std.specs.Prelude.{◌≡◌, Bool, true, false, List, [], ◌∷◌, ◌++◌, eqb, ltb, length, take, drop, get_or, set, replicate}
+use Rattle.std.specs.Prelude.{◌≡◌, None, Some, Bool, true, false, List, [], ◌∷◌, ◌++◌, eqb, ltb, length, take, drop, get_or, set, replicate}
 use Rattle.std.proofs.Math.Path.{refl, ap}
-use Rattle.std.proofs.Common.{sym, ◌∙◌, subst, append_assoc, append-nil, add-one, length-set, length-append, take-append-drop, drop_of_length-le, drop-cons, length-take-le, get_or-set_same, get_or-set_other, ext_get_or}
+use Rattle.std.proofs.Common.{sym, ◌∙◌, subst, append_assoc, append-nil, add-one, length-set, length-append, drop_of_length-le, get_or-set_same, get_or-set_other, ext_get_or, take-append-drop, drop-cons, length-take-le}
 use native.Mathlib.Omega.{arith}
-use Rattle.std.proofs.lemmas.List.{length-replicate, set_at, drop-append-le}
+use Rattle.std.proofs.lemmas.List.{drop-append-le, length-replicate, set_at}
 use Rattle.std.proofs.Math.Seq.{take-append_seam, drop-append_seam}
 use borrow.Author.Tests.{le-ltb, lt-ltb, ltb-true, ltb-false, eq-eqb, ne_eqb}
 use Rattle.format.specs.Reading.{pick}
@@ -15,62 +15,29 @@ use Rattle.parts.specs.Slots.{symbol_at, symbols, putting, latest_of, Below, Clo
 -- ## The latest symbol of a table
 
 module _ (table low : ℕ) (slots : List ℕ) where
-  pub latest_step :
-      (from : ℕ) → low < from
-      → latest_of table low from slots ≡ pick (eqb (get_or slots ((from - 1) * 3) 0) table) from (latest_of table low (from - 1) slots)
-  unfolding latest_of
-  latest_step zero h = absurd (omega arith)
-  latest_step (suc h) l = let e : suc h - 1 ≡ h = omega arith in rw (e, le-ltb h low (omega arith))
-
-  pub latest_end : (from : ℕ) → from ≤ low → 0 ≡ latest_of table low from slots
+  pub latest_end : (from : ℕ) → from ≤ low → None ≡ latest_of table low from slots
   unfolding latest_of
   latest_end zero h = refl
   latest_end (suc h) l = rw (lt-ltb h low (omega arith))
 
   -- The search from `held` down has come to `from`.
   pub record Sought (held from : ℕ) : Type 0 where
-    pub on : from ≤ held
     pub is : latest_of table low held slots ≡ latest_of table low from slots
 
+  pub latest_step :
+      (from : ℕ) → low < from
+      → latest_of table low from slots
+      ≡ pick (eqb (get_or slots ((from - 1) * 3) 0) table) (Some (from - 1)) (latest_of table low (from - 1) slots)
+  unfolding latest_of
+  latest_step zero h = absurd (omega arith)
+  latest_step (suc h) l = let e : suc h - 1 ≡ h = omega arith in rw (e, le-ltb h low (omega arith))
+
   module _ {held from : ℕ} (s : Sought held from) (h : low < from) where
-    pub sought_here : get_or slots ((from - 1) * 3) 0 ≡ table → from ≡ latest_of table low held slots
+    pub sought_here : get_or slots ((from - 1) * 3) 0 ≡ table → Some (from - 1) ≡ latest_of table low held slots
     sought_here e = sym (s.is ∙ latest_step from h ∙ rw (eq-eqb (get_or slots ((from - 1) * 3) 0) table e))
 
     pub sought_on : (get_or slots ((from - 1) * 3) 0 ≡ table → ⊥) → Sought held (from - 1)
-    sought_on e =
-        record { on = omega (arith, s.on); is = s.is ∙ latest_step from h ∙ rw (ne_eqb (get_or slots ((from - 1) * 3) 0) table e) }
-
--- ## Zeros
-
-abbrev pub zeroed : (start i : ℕ) → List ℕ → List ℕ
-zeroed start i slots = take start slots ++ (replicate (i - start) 0 ++ drop i slots)
-
-module _ (start : ℕ) (slots : List ℕ) where
-  pub zeroed_none : start ≤ length slots → slots ≡ zeroed start start slots
-  zeroed_none h = let e : start - start ≡ 0 = omega arith in rw e (sym (take-append-drop start slots))
-
-  one_more : (n : ℕ) (l : List ℕ) → replicate n 0 ++ (0 ∷ l) ≡ replicate (suc n) 0 ++ l
-  one_more zero l = refl
-  one_more (suc n) l = ap (λ m. 0 ∷ m) (one_more n l)
-
-  pub zeroed_more : (i : ℕ) → start ≤ i → i < length slots → set (zeroed start i slots) i 0 ≡ zeroed start (i + 1) slots
-  zeroed_more i h l =
-      let p = take start slots ++ replicate (i - start) 0 in
-      let long : length p ≡ i = length-append (take start slots) (replicate (i - start) 0)
-      ∙ rw (length-take-le start slots (omega arith), length-replicate {A = ℕ} (i - start) 0) (omega arith) in
-      let count : i + 1 - start ≡ suc (i - start) = omega arith in
-      ap (λ m. set m i 0) (sym (append_assoc (take start slots) (replicate (i - start) 0) (drop i slots))
-      ∙ ap (λ m. p ++ m) (drop-cons slots i 0 l))
-      ∙ set_at p (get_or slots i 0) (drop (suc i) slots) 0 i long
-      ∙ append_assoc (take start slots) (replicate (i - start) 0) (0 ∷ drop (suc i) slots)
-      ∙ rw (count, add-one i) (ap (λ m. take start slots ++ m) (one_more (i - start) (drop (suc i) slots)))
-
-  pub zeroed_all :
-      (i : ℕ) → length slots ≤ i → start ≤ length slots → i ≤ length slots
-      → zeroed start i slots ≡ take start slots ++ replicate (length slots - start) 0
-  zeroed_all i h l m =
-      let e : i ≡ length slots = omega arith in
-      rw (e, drop_of_length-le slots {i = length slots} (omega arith), append-nil {A = ℕ} (replicate (length slots - start) 0))
+    sought_on e = record { is = s.is ∙ latest_step from h ∙ rw (ne_eqb (get_or slots ((from - 1) * 3) 0) table e) }
 
 -- ## Symbols and stores
 
@@ -172,52 +139,53 @@ module _ (table mark held : ℕ) (before : List ℕ) where
   }
 
   module _ {after : List ℕ} {from to : ℕ} (c : Closing after from to) (h : from < held) where
-    -- A symbol of the table is passed over.
-    pub closing_drops : get_or after (from * 3) 0 ≡ table → Closing after (from + 1) to
-    closing_drops e =
-        let own : get_or before (from * 3) 0 ≡ table = sym (c.ahead (from * 3) (omega (arith, c.behind))) ∙ e in
-        record {
-          start = c.start;
-          behind = omega (arith, c.behind);
-          on = omega arith;
-          holds = rw (add-one from) (c.holds ∙ ap (λ l. symbols mark before ++ l) (sym (stays from (omega (arith, c.start, c.behind))
-              ∙ rw (one_dropped table (symbol_at before from) own) (append-nil (others table (drop mark (symbols from before)))))));
-          frame = c.frame;
-          ahead = c.ahead;
-        }
+    module _ {s : Symbol} (read : s ≡ symbol_at after from) where
+      as_before : symbol_at after from ≡ symbol_at before from
+      as_before =
+          cc (
+            c.ahead (from * 3) (omega (arith, c.behind)),
+            c.ahead (from * 3 + 1) (omega (arith, c.behind)),
+            c.ahead (from * 3 + 2) (omega (arith, c.behind)),
+          )
 
-    -- A symbol of another table slides down.
-    pub closing_keeps : (get_or after (from * 3) 0 ≡ table → ⊥) → held * 3 ≤ length after
-        → Closing (putting after to (get_or after (from * 3) 0) (get_or after (from * 3 + 1) 0) (get_or after (from * 3 + 2) 0)) (from + 1)
-        (to + 1)
-    closing_keeps e room =
-        let t = get_or after (from * 3) 0 in let p = get_or after (from * 3 + 1) 0 in let q = get_or after (from * 3 + 2) 0 in
-        let fits : to * 3 + 3 ≤ length after = omega (arith, c.behind) in
-        let same : symbol t p q
-        ≡ symbol_at before from = cc (
-          c.ahead (from * 3) (omega (arith, c.behind)),
-          c.ahead (from * 3 + 1) (omega (arith, c.behind)),
-          c.ahead (from * 3 + 2) (omega (arith, c.behind)),
-        ) in
-        let other : get_or before (from * 3) 0 ≡ table → ⊥ = λ z. e (c.ahead (from * 3) (omega (arith, c.behind)) ∙ z) in
-        record {
-          start = omega (arith, c.start);
-          behind = omega (arith, c.behind);
-          on = omega arith;
-          holds = rw (add-one from, add-one to) (putting_more after to t p q fits ∙ ap (λ l. l ++ (symbol t p q ∷ [])) c.holds
-              ∙ append_assoc (symbols mark before) (others table (drop mark (symbols from before))) (symbol t p q ∷ [])
-              ∙ ap (λ l. symbols mark before ++ l) (ap (λ s. others table (drop mark (symbols from before)) ++ (s ∷ [])) same
-              ∙ sym (stays from (omega (arith, c.start, c.behind)) ∙ rw (one_kept table (symbol_at before from) other))));
-          frame = record {
-            long = putting_length after to t p q fits ∙ c.frame.long;
-            same =
-                λ k l. putting_other after to t p q fits k (λ z. omega (arith, c.start)) (λ z. omega (arith, c.start))
-                (λ z. omega (arith, c.start)) ∙ c.frame.same k l;
-          };
-          ahead =
-              λ k l. putting_other after to t p q fits k (λ z. omega arith) (λ z. omega arith) (λ z. omega arith)
-              ∙ c.ahead k (omega arith);
-        }
+      table_as : s.table ≡ get_or before (from * 3) 0
+      table_as = ap (λ s. s.table) (read ∙ as_before)
+
+      -- A symbol of the table is passed over.
+      pub closing_drops : s.table ≡ table → Closing after (from + 1) to
+      closing_drops e = record {
+        start = c.start;
+        behind = omega (arith, c.behind);
+        on = omega arith;
+        holds = rw (add-one from) (c.holds ∙ ap (λ l. symbols mark before ++ l) (sym (stays from (omega (arith, c.start, c.behind))
+            ∙ rw (one_dropped table (symbol_at before from) (sym table_as ∙ e)) (append-nil (others table (drop mark (symbols from before)))))));
+        frame = c.frame;
+        ahead = c.ahead;
+      }
+
+      -- A symbol of another table slides down.
+      pub closing_keeps : (s.table ≡ table → ⊥) → held * 3 ≤ length after
+          → Closing (putting after to s.table s.from s.to) (from + 1) (to + 1)
+      closing_keeps e room =
+          let fits : to * 3 + 3 ≤ length after = omega (arith, c.behind) in
+          record {
+            start = omega (arith, c.start);
+            behind = omega (arith, c.behind);
+            on = omega arith;
+            holds = rw (add-one from, add-one to) (putting_more after to s.table s.from s.to fits ∙ ap (λ l. l ++ (s ∷ [])) c.holds
+                ∙ append_assoc (symbols mark before) (others table (drop mark (symbols from before))) (s ∷ [])
+                ∙ ap (λ l. symbols mark before ++ l) (ap (λ s. others table (drop mark (symbols from before)) ++ (s ∷ [])) (read ∙ as_before)
+                ∙ sym (stays from (omega (arith, c.start, c.behind)) ∙ rw (one_kept table (symbol_at before from) (λ z. e (table_as ∙ z))))));
+            frame = record {
+              long = putting_length after to s.table s.from s.to fits ∙ c.frame.long;
+              same =
+                  λ k l. putting_other after to s.table s.from s.to fits k (λ z. omega (arith, c.start)) (λ z. omega (arith, c.start))
+                  (λ z. omega (arith, c.start)) ∙ c.frame.same k l;
+            };
+            ahead =
+                λ k l. putting_other after to s.table s.from s.to fits k (λ z. omega arith) (λ z. omega arith) (λ z. omega arith)
+                ∙ c.ahead k (omega arith);
+          }
 
   pub closing_ends : {after : List ℕ} {from to : ℕ} → Closing after from to → held ≤ from → Closes table mark held before after to
   closing_ends {after} {from} {to} c h =
@@ -273,3 +241,35 @@ closes_once {before =
         symbols_numbers r a b (c.holds ∙ sym d.holds ∙ ap (λ n. symbols n b) (sym same)) k (ltb-true k (r * 3) e)
     go k false e =
         let h = ltb-false k (r * 3) e in c.past k h ∙ sym (d.past k (omega (arith, same)))
+
+-- ## Zeros
+
+abbrev pub zeroed : (start i : ℕ) → List ℕ → List ℕ
+zeroed start i slots = take start slots ++ (replicate (i - start) 0 ++ drop i slots)
+
+module _ (start : ℕ) (slots : List ℕ) where
+  pub zeroed_none : start ≤ length slots → slots ≡ zeroed start start slots
+  zeroed_none h = let e : start - start ≡ 0 = omega arith in rw e (sym (take-append-drop start slots))
+
+  one_more : (n : ℕ) (l : List ℕ) → replicate n 0 ++ (0 ∷ l) ≡ replicate (suc n) 0 ++ l
+  one_more zero l = refl
+  one_more (suc n) l = ap (λ m. 0 ∷ m) (one_more n l)
+
+  pub zeroed_more : (i : ℕ) → start ≤ i → i < length slots → set (zeroed start i slots) i 0 ≡ zeroed start (i + 1) slots
+  zeroed_more i h l =
+      let p = take start slots ++ replicate (i - start) 0 in
+      let long : length p ≡ i = length-append (take start slots) (replicate (i - start) 0)
+      ∙ rw (length-take-le start slots (omega arith), length-replicate {A = ℕ} (i - start) 0) (omega arith) in
+      let count : i + 1 - start ≡ suc (i - start) = omega arith in
+      ap (λ m. set m i 0) (sym (append_assoc (take start slots) (replicate (i - start) 0) (drop i slots))
+      ∙ ap (λ m. p ++ m) (drop-cons slots i 0 l))
+      ∙ set_at p (get_or slots i 0) (drop (suc i) slots) 0 i long
+      ∙ append_assoc (take start slots) (replicate (i - start) 0) (0 ∷ drop (suc i) slots)
+      ∙ rw (count, add-one i) (ap (λ m. take start slots ++ m) (one_more (i - start) (drop (suc i) slots)))
+
+  pub zeroed_all :
+      (i : ℕ) → length slots ≤ i → start ≤ length slots → i ≤ length slots
+      → zeroed start i slots ≡ take start slots ++ replicate (length slots - start) 0
+  zeroed_all i h l m =
+      let e : i ≡ length slots = omega arith in
+      rw (e, drop_of_length-le slots {i = length slots} (omega arith), append-nil {A = ℕ} (replicate (length slots - start) 0))

@@ -5,20 +5,15 @@ ghost use Rattle.parts.specs.Slots.{symbol_at, Parts};
 ghost use Rattle.parts.specs.Seen.{listed};
 ghost use Rattle.meaning.specs.Inside.{Part};
 
-use crate::bytes::same;
+use crate::slots::symbol_at;
 
 // Whether the symbol of a number is, byte for byte, what stands in the input from `at` to `to`.
 pub fn is_symbol(input: &[u8], slots: &[u32], number: u32, at: usize, to: usize) -> bool
     requires { (number ≤ 255) × (number * 3 + 3 ≤ length slots.now) × Part (length input.now) (symbol_at slots.now number) × (at ≤ to) × (to ≤ length input.now) }
     ensures { result ≡ Outcome·same (part input.now at to) (text input.now (symbol_at slots.now number)) }
 {
-    let i = (number * 3) as usize;
-    let from = slots[i + 1] as usize;
-    let end = slots[i + 2] as usize;
-    if end - from != to - at {
-        return false;
-    }
-    same(input, at, input, from, to - at)
+    let symbol = symbol_at(slots, number);
+    input[at..to] == input[symbol.start as usize..symbol.end as usize]
 }
 
 // Whether some symbol of a table's list, of the first `held` symbols those from `low` on, is what stands in the input from `at` to `to`.
@@ -34,13 +29,9 @@ pub fn is_listed(
     requires { (held ≤ 256) × (held * 3 ≤ length slots.now) × Parts (length input.now) held slots.now × (at ≤ to) × (to ≤ length input.now) }
     ensures { result ≡ among input.now (part input.now at to) (listed table low slots.now held) }
 {
-    let mut next = held;
-    while low < next {
-        next -= 1;
-        if slots[(next * 3) as usize] == table {
-            if is_symbol(input, slots, next, at, to) {
-                return true;
-            }
+    for number in (low..held).rev() {
+        if symbol_at(slots, number).table == table && is_symbol(input, slots, number, at, to) {
+            return true;
         }
     }
     false

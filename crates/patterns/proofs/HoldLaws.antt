@@ -18,7 +18,7 @@ use Rattle.notation.specs.Places.{name_in, numbered}
 use Rattle.index.specs.declared.list.Kept.{Kept}
 use Rattle.index.specs.Listed.{names_at, Ascending, Keeps}
 use Rattle.lexer.specs.declared.token.Token.{Token}
-use Rattle.lexer.specs.Meant.{opener_at, meant, placed, ahead}
+use Rattle.lexer.specs.Meant.{opener_at, meant_by, meant, placed, ahead_by}
 use Rattle.lexer.specs.Names.{NameEnds}
 use Rattle.patterns.specs.Bodies.{same_streams, defs_on}
 use Rattle.patterns.specs.Compared.{stream_at}
@@ -54,18 +54,16 @@ module _ {text latest : List ℕ} {count over : ℕ} {t : Token} (h : length tex
   room = omega (arith, inside, few_defs text, S.few, S.long)
 
   name_here_lem : drop t.name text ≡ name_in (get_or (defs_of text) i no_lexeme).here
-  name_here_lem =
-      let k = D.def.0 in
-      D.lexed.named (omega arith) (omega arith) ∙ ap (λ l. name_in l.here) (sym this)
+  name_here_lem = D.lexed.named (rw D.def) ∙ ap (λ l. name_in l.here) (sym this)
 
   is_def : meant text t ≡ opens (def (name_at text t.name))
-  unfolding meant opener_at
-  is_def = let d = D.def in rw (d.0, d.1)
+  unfolding meant_by opener_at
+  is_def = rw D.def
 
   body_here : (body_of (get_or (defs_of text) i no_lexeme)).ahead ≡ tokens (drop t.next text)
-  unfolding ahead
+  unfolding ahead_by
   body_here =
-      ap (λ l. (body_of l).ahead) this ∙ ap (λ b. b.ahead) (body_front (drop D.from text) {l = placed text t} {ls = lexemes (drop t.next text)} (D.lexed.goes ∙ rw D.def.0) is_def)
+      ap (λ l. (body_of l).ahead) this ∙ ap (λ b. b.ahead) (body_front (drop D.from text) {l = placed text t} {ls = lexemes (drop t.next text)} (D.lexed.goes ∙ rw D.def) is_def)
 
   -- It is passed over.
   pub over_one : 0 < over → Passes text latest count (over - 1) (defs_of (drop t.next text))

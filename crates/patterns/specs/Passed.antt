@@ -1,7 +1,6 @@
 -- The pass over a text's defs: what is known of those before a place.
-use Rattle.std.specs.Prelude.{ℕ, ◌+◌, ◌≤◌, ◌<◌, ◌≡◌, Bool, false, List, [], ◌∷◌, eqb, ltb, length, get_or, take, drop}
+use Rattle.std.specs.Prelude.{ℕ, ◌+◌, ◌≤◌, ◌<◌, ◌≡◌, Bool, true, false, Option, Some, None, List, [], ◌∷◌, ltb, length, get_or, take, drop}
 use Rattle.std.proofs.Math.Option.{some}
-use Rattle.format.specs.Reading.{pick}
 use Rattle.notation.specs.Tree.{Name, Production}
 use Rattle.notation.specs.Token.{bad, Lexeme}
 use Rattle.notation.specs.Lexer.{lexemes, tokens}
@@ -14,9 +13,11 @@ use Rattle.notation.specs.OnePattern.{no_definition, fault}
 use Rattle.notation.specs.Places.{name_in, is_def, only, numbered}
 use Rattle.index.specs.Listed.{names_at, Ascending}
 use Rattle.lexer.specs.declared.token.Token.{Token}
+use Rattle.lexer.specs.declared.token.Kind.{Kind}
+use Rattle.lexer.specs.declared.token.Kind.TheVariants as Kind
+use Rattle.lexer.specs.declared.token.Opener.TheVariants as Opener
 use Rattle.lexer.specs.Meant.{placed, Lexed}
-use Rattle.patterns.specs.declared.one.Held.{Held}
-use Rattle.patterns.specs.declared.one.Held.TheVariants.{On, Unlike}
+use Rattle.patterns.specs.declared.one.Pass.{Pass}
 use Rattle.patterns.specs.Pass.{pass_from}
 
 -- The defs of a text, with what stands for one where there is none, and their tables.
@@ -58,18 +59,19 @@ pub record Passes (text latest : List ℕ) (count over : ℕ) (rest : List Lexem
   pub long : length latest ≡ 32768
   pub known : (ps : List Production) → Productions (tokens text) ps → Known text ps latest count (number + over)
 
--- A token is a def, by its numbers.
-abbrev pub defines : Token → Bool
-defines t = pick (eqb t.kind 6) (eqb t.symbol 10) false
+-- A token is a def, by its kind.
+abbrev pub defines : Kind → Bool
+defines (Kind.Opens Opener.Def) = true
+defines k = false
 
 -- A text's token is one.
 pub record Defines (text : List ℕ) (t : Token) : Type 0 where
   pub from : ℕ
   pub lexed : Lexed text from t
-  pub def : (t.kind ≡ 6) × (t.symbol ≡ 10)
+  pub def : t.kind ≡ Kind.Opens Opener.Def
 
 -- What holding a def to the one before it of its table comes to: the pass goes on behind it, or it is the one at fault.
-abbrev pub Holds : (text latest : List ℕ) → Token → Held → Type 0
-Holds text latest t (On count over) = Passes text latest count over (defs_of (drop t.next text))
-Holds text latest t Unlike =
+abbrev pub Holds : (text latest : List ℕ) → Token → Option Pass → Type 0
+Holds text latest t (Some p) = Passes text latest p.count p.over (defs_of (drop t.next text))
+Holds text latest t None =
     (ps : List Production) → Productions (tokens text) ps → numbered (fault (definitions ps)) (defs_of text) ≡ some (placed text t)

@@ -1,47 +1,47 @@
 // The contents of two symbols of one kind, by the tokens that put them out.
-ghost use Rattle.std.specs.Prelude.{◌≡◌, ◌∷◌};
+ghost use Rattle.std.specs.Prelude.{◌≡◌};
 ghost use Rattle.notation.specs.Lexer.{same};
 ghost use Rattle.notation.specs.At.{name_at};
-ghost use Rattle.notation.specs.Symbols.{bit, same_symbol};
-ghost use Rattle.walker.specs.Walks.{symbol_at};
-ghost use Rattle.patterns.specs.Compared.{Shown};
+ghost use Rattle.notation.specs.Stream.{stands};
+ghost use Rattle.notation.specs.Symbols.{same_symbol};
+ghost use Rattle.lexer.specs.Meant.{leaf_at};
+ghost use Rattle.walker.specs.Walks.{symbol_at, Taken};
+ghost use Rattle.patterns.specs.Compared.{TakenLeaf};
 
 use chars::class::same_class;
 use chars::quoted::same_quoted;
 use index::order::order_at;
-use lexer::token::Token;
+use lexer::token::{Leaf, Token};
+use walker::walk::Symbol;
 
 // Whether two names of a text are the same.
 fn same_name(text: &[u8], p: usize, q: usize) -> bool
     ensures { result ≡ same (name_at text.now p) (name_at text.now q) }
 {
-    order_at(text, p, q) == 1
+    order_at(text, p, q).is_eq()
 }
 
-// Whether two conditions have the same truth and the same name.
-fn same_switch(text: &[u8], a: Token, b: Token) -> bool
-    ensures { result ≡ same (bit a.truth ∷ name_at text.now a.name) (bit b.truth ∷ name_at text.now b.name) }
+// Whether two tokens of one leaf have the same contents: those of quoted text or of a class, a name, or none.
+fn same_leaf(text: &[u8], leaf: Leaf, a: Token, b: Token) -> bool
+    requires { TakenLeaf text.now a leaf × TakenLeaf text.now b leaf }
+    ensures { result ≡ same_symbol (stands (leaf_at text.now a leaf)) (stands (leaf_at text.now b leaf)) }
 {
-    if a.truth != b.truth {
-        return false;
-    }
-    same_name(text, a.name, b.name)
-}
-
-// Whether two symbols of one number have the same contents: those of quoted text or of a class, a truth and a name, a name, or none.
-#[tactic(auto, using(crate::proofs::ContentsLaws::same_plain))]
-pub fn same_contents(text: &[u8], symbol: u8, a: Token, b: Token) -> bool
-    requires { Shown text.now symbol a × Shown text.now symbol b }
-    ensures { result ≡ same_symbol (symbol_at text.now symbol a) (symbol_at text.now symbol b) }
-{
-    if 14 <= symbol {
-        return true;
-    }
-    match symbol {
-        1 => true,
-        2 => same_quoted(text, a.start, b.start),
-        3 => same_class(text, a.start, b.start),
-        9 | 13 => same_switch(text, a, b),
+    match leaf {
+        Leaf::Any => true,
+        Leaf::Quoted => same_quoted(text, a.start, b.start),
+        Leaf::Class => same_class(text, a.start, b.start),
         _ => same_name(text, a.name, b.name),
+    }
+}
+
+// Whether a symbol has the same contents by two tokens.
+pub fn same_contents(text: &[u8], symbol: Symbol, a: Token, b: Token) -> bool
+    requires { Taken text.now a symbol × Taken text.now b symbol }
+    ensures { result ≡ same_symbol (symbol_at text.now a symbol) (symbol_at text.now b symbol) }
+{
+    match symbol {
+        Symbol::Head | Symbol::Opens(_) => same_name(text, a.name, b.name),
+        Symbol::Leaf(leaf) => same_leaf(text, leaf, a, b),
+        _ => true,
     }
 }

@@ -1,10 +1,10 @@
-// A reader stands over an image and hands out one number at a time. `next` takes it apart and leaves the work to `number_at` and `after`, which
-// know of no reader.
+// A reader stands over an image and hands out one number at a time. `next` leaves the work to `number_at`, which knows of no reader.
 ghost use Rattle.std.specs.Prelude.{◌≡◌};
 ghost use Rattle.format.specs.Number.{number_at};
-ghost use Rattle.reader.specs.Meant.{reading, behind, moved};
+ghost use Rattle.reader.specs.Meant.{told, moved};
 
-use crate::number::{Read, number_at};
+use crate::number::number_at;
+use crate::refusal::Refusal;
 
 // An image, and the place where the next number is due.
 #[derive(Clone, Copy)]
@@ -13,43 +13,27 @@ pub struct Reader<'a> {
     pub at: usize,
 }
 
-// A reader over an image, at a place of it or past its end.
-pub fn over<'a>(image: &'a [u8], at: usize) -> Reader<'a>
-    ensures { (result.image ≡ image.entry) × (result.at ≡ at) }
-{
-    Reader { image, at }
-}
-
-// How far a reader stands.
-pub fn stands<'a>(r: Reader<'a>) -> usize
-    ensures { result ≡ r.entry.at }
-{
-    r.at
-}
-
-// The number at the reader's place. The reader then stands behind it, or where it stood if it is refused.
-pub fn next<'s, 'a>(r: &'s mut Reader<'a>) -> Read
-    ensures { (reading result ≡ number_at r.old.image.now r.old.at) × (r.new ≡ moved r.old) }
-{
-    let read = number_at(r.image, r.at);
-    r.at = after(read, r.at);
-    read
-}
-
-// Where one stands after a reading at a place.
-fn after(read: Read, at: usize) -> usize
-    ensures { result ≡ behind (reading read) at }
-{
-    match read {
-        Read::Got(n) => n.next,
-        Read::Refused(_) => at,
+impl<'a> Reader<'a> {
+    // A reader over an image, at a place of it or past its end.
+    pub fn over(image: &'a [u8], at: usize) -> Reader<'a>
+        ensures { (result.image ≡ image.entry) × (result.at ≡ at) }
+    {
+        Reader { image, at }
     }
-}
 
-// The number at a place of an image, handed out by a reader that is set there.
-pub fn number_from(image: &[u8], at: usize) -> Read
-    ensures { reading result ≡ number_at image.now at }
-{
-    let mut r = over(image, at);
-    next(&mut r)
+    // How far the reader stands.
+    pub fn stands(self) -> usize
+        ensures { result ≡ self.entry.at }
+    {
+        self.at
+    }
+
+    // The number at the reader's place. The reader then stands behind it, or where it stood if it is refused.
+    pub fn next(&mut self) -> Result<u32, Refusal>
+        ensures { (told result self.new.at ≡ number_at self.old.image.now self.old.at) × (self.new ≡ moved self.old) }
+    {
+        let number = number_at(self.image, self.at)?;
+        self.at = number.next;
+        Ok(number.value)
+    }
 }

@@ -4,7 +4,7 @@ use Rattle.std.proofs.Common.{sym, ◌∙◌}
 use Rattle.tally.specs.declared.Tally.{Tally}
 use Rattle.tally.specs.Charged.{charged}
 
--- `greater`: the number.
+-- `max`, which carries the depth: the number.
 pub one_greater : (a b : ℕ) {r r' : ℕ} → r ≡ max a b → r' ≡ max a b → r ≡ r'
 one_greater a b e f = e ∙ sym f
 

@@ -13,23 +13,13 @@ pub struct Tally {
     pub depth: u32,
 }
 
-// The greater of two numbers.
-fn greater(a: u32, b: u32) -> u32
-    ensures { result ≡ max a b }
-{
-    if a < b {
-        return b;
-    }
-    a
-}
-
 // Charges one step at a depth. The step limit is at most 1,000,000, so the count stays far from the end of its range.
 fn charge(tally: &mut Tally, depth: u32)
     requires { tally.old.steps < 1000000 }
     ensures { tally.new ≡ charged tally.old depth }
 {
-    tally.steps = tally.steps + 1;
-    tally.depth = greater(tally.depth, depth);
+    tally.steps += 1;
+    tally.depth = tally.depth.max(depth);
 }
 
 // The tally after one step more, at a depth; at depth 0 where no new depth is entered: a later round of a Star, or an entry no deeper than one before.

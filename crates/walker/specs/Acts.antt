@@ -1,57 +1,126 @@
--- What the walk's numbers stand for, and what one act of it promises.
-use Rattle.std.specs.Prelude.{ℕ, zero, suc, ◌+◌, ◌-◌, ◌≤◌, ◌≡◌, List, [], ◌∷◌, eqb, ltb, get_or, length}
-use Rattle.format.specs.Reading.{pick}
-use Rattle.notation.specs.Tree.{and, not, sequence, choice}
+-- What the walk's modes and what is open stand for, and what one act of it promises.
+use Rattle.std.specs.Prelude.{ℕ, zero, suc, ◌+◌, ◌-◌, ◌≤◌, ◌≡◌, Bool, true, false, Option, Some, None, List, [], ◌∷◌, get_or, length}
+use Rattle.notation.specs.Tree as Tree
+use Rattle.notation.specs.Tree.{Name, and, not, sequence, choice}
 use Rattle.notation.specs.Token.{Token, head, leaf, opens, closes, left, right, slash, before, after, bad}
-use Rattle.notation.specs.Stream.{Symbol, named, stands, enters, leaves, front, back, joins, Stream, ◌▸◌, ◌▸▸◌, ended, broken, Pending, bracket, angle, waits, half, Mode, start, want, behind, stream}
+use Rattle.notation.specs.Stream.{Symbol, named, stands, enters, leaves, front, back, joins, Stream, ◌▸◌, ◌▸▸◌, ended, broken, Pending, bracket, angle, waits, half, start, want, behind, stream}
+use Rattle.notation.specs.Stream as N
+use Rattle.lexer.specs.declared.token.Kind.{Kind}
+use Rattle.lexer.specs.declared.token.Leaf.{Leaf}
+use Rattle.lexer.specs.declared.token.Opener.{Opener}
+use Rattle.lexer.specs.declared.token.Suffix.{Suffix}
+use Rattle.lexer.specs.Meant.{IsToken}
+use Rattle.walker.specs.declared.act.Mode.{Mode}
+use Rattle.walker.specs.declared.act.Mode.TheVariants.{Start, Want, Behind}
+use Rattle.walker.specs.declared.act.Open.{Open}
+use Rattle.walker.specs.declared.act.Open.TheVariants.{Bracket, Angle, Choice, Sequence, And, Not}
+use Rattle.walker.specs.declared.act.Reach.{Reach}
+use Rattle.walker.specs.declared.act.Reach.TheVariants.{Item, Alternative, End}
 use Rattle.walker.specs.declared.act.Act.{Act}
 use Rattle.walker.specs.declared.act.Act.TheVariants.{Pop, Shift, Ended, Broken}
 
--- ## Numbers
+-- ## Kinds
 
--- The kind of a token, and of the front one of some, 0 where none is left: 0 to 3 end what is open, 4 ends rows, 5 to 9 begin an item.
-unfoldable pub kind_of : Token → ℕ
-kind_of (head n) = 1
-kind_of closes = 2
-kind_of right = 3
-kind_of slash = 4
-kind_of (leaf l) = 5
-kind_of (opens o) = 6
-kind_of left = 7
-kind_of (before and) = 8
-kind_of (before not) = 9
-kind_of (after s) = 10
-kind_of bad = 11
+-- Some tokens whose front one is of this kind; at the end none is left.
+pub data Is : Kind → List Token → Type 0 where
+  is_none : Is Kind.End []
+  is_head : {n : Name} {ts : List Token} → Is Kind.Head (head n ∷ ts)
+  is_closes : {ts : List Token} → Is Kind.Closes (closes ∷ ts)
+  is_right : {ts : List Token} → Is Kind.Right (right ∷ ts)
+  is_slash : {ts : List Token} → Is Kind.Slash (slash ∷ ts)
+  is_leaf : {k : Leaf} {l : Tree.Leaf} {ts : List Token} → Is (Kind.Leaf k) (leaf l ∷ ts)
+  is_opens : {k : Opener} {o : Tree.Opener} {ts : List Token} → Is (Kind.Opens k) (opens o ∷ ts)
+  is_left : {ts : List Token} → Is Kind.Left (left ∷ ts)
+  is_and : {ts : List Token} → Is Kind.And (before and ∷ ts)
+  is_not : {ts : List Token} → Is Kind.Not (before not ∷ ts)
+  is_after : {k : Suffix} {s : Tree.Suffix} {ts : List Token} → Is (Kind.After k) (after s ∷ ts)
+  is_bad : {ts : List Token} → Is Kind.Bad (bad ∷ ts)
 
-abbrev pub kind : List Token → ℕ
-kind [] = 0
-kind (t ∷ ts) = kind_of t
+-- What may come behind a primary and is no suffix.
+abbrev pub Follows : Kind → Type 0
+Follows (Kind.After s) = ⊥
+Follows Kind.Bad = ⊥
+Follows k = Unit
 
-unfoldable pub mode_of : ℕ → Mode
-mode_of m = pick (eqb m 0) start (pick (eqb m 1) want behind)
+-- ## Modes, and what is open
 
--- What is open, as a byte: the greater, the tighter it binds.
-unfoldable pub entry_of : ℕ → Pending
-entry_of b =
-    pick (eqb b 0) bracket
-    (pick (eqb b 1) angle (pick (eqb b 2) (half choice) (pick (eqb b 3) (half sequence) (pick (eqb b 4) (waits and) (waits not)))))
+abbrev pub mode_of : Mode → N.Mode
+mode_of Start = start
+mode_of Want = want
+mode_of Behind = behind
 
--- What is open where h bytes of the stack count, the latest first; and the latest byte, 0 where nothing is open.
-unfoldable pub opened : ℕ → List ℕ → List Pending
+-- How much a mode counts, where no more may be open than bytes stand before the front token.
+abbrev pub weight : Mode → ℕ
+weight Start = 0
+weight Want = 1
+weight Behind = 2
+
+abbrev pub pending : Open → Pending
+pending Bracket = bracket
+pending Angle = angle
+pending Choice = half choice
+pending Sequence = half sequence
+pending And = waits and
+pending Not = waits not
+
+-- What waits, and is closed by what comes next: all but a bracket, which a token of its own closes.
+abbrev pub IsBracket : Open → Type 0
+IsBracket Bracket = Unit
+IsBracket Angle = Unit
+IsBracket Choice = ⊥
+IsBracket Sequence = ⊥
+IsBracket And = ⊥
+IsBracket Not = ⊥
+
+abbrev pub Waiting : Open → Type 0
+Waiting Bracket = ⊥
+Waiting Angle = ⊥
+Waiting Choice = Unit
+Waiting Sequence = Unit
+Waiting And = Unit
+Waiting Not = Unit
+
+-- What is open where h entries of the stack count, the latest first; and the latest, a bracket where nothing is open.
+unfoldable pub opened : ℕ → List Open → List Pending
 opened zero s = []
-opened (suc h) s = entry_of (get_or s h 0) ∷ opened h s
+opened (suc h) s = pending (get_or s h Bracket) ∷ opened h s
 
-unfoldable pub latest : ℕ → List ℕ → ℕ
-latest zero s = 0
-latest (suc h) s = get_or s h 0
+unfoldable pub latest : ℕ → List Open → Open
+latest zero s = Bracket
+latest (suc h) s = get_or s h Bracket
 
--- The least byte of what is open that a token of kind k closes: an end closes all but brackets, `/` closes rows, an item prefixes.
-unfoldable pub closes_from : ℕ → ℕ
-closes_from k = pick (ltb k 4) 2 (pick (eqb k 4) 3 4)
+-- How far what comes next closes: an end all but brackets, `/` rows and prefixes, an item prefixes. And the kind that closes a bracket.
+abbrev pub reach_of : Kind → Reach
+reach_of Kind.End = End
+reach_of Kind.Head = End
+reach_of Kind.Closes = End
+reach_of Kind.Right = End
+reach_of Kind.Slash = Alternative
+reach_of k = Item
 
--- What a token of kind 6 to 9 opens where an item must begin.
-unfoldable pub pushed_by : ℕ → Pending
-pushed_by k = pick (eqb k 6) angle (pick (eqb k 7) bracket (pick (eqb k 8) (waits and) (waits not)))
+abbrev pub closed_by : Reach → Open → Bool
+closed_by r Bracket = false
+closed_by r Angle = false
+closed_by Item Choice = false
+closed_by Alternative Choice = false
+closed_by End Choice = true
+closed_by Item Sequence = false
+closed_by Alternative Sequence = true
+closed_by End Sequence = true
+closed_by r And = true
+closed_by r Not = true
+
+abbrev pub closer_of : Open → Kind
+closer_of Bracket = Kind.Right
+closer_of o = Kind.Closes
+
+-- What a token opens where an item must begin.
+abbrev pub opened_by : Kind → Option Open
+opened_by (Kind.Opens o) = Some Angle
+opened_by Kind.Left = Some Bracket
+opened_by Kind.And = Some And
+opened_by Kind.Not = Some Not
+opened_by k = None
 
 -- ## What is put out
 
@@ -80,28 +149,28 @@ puts bad = []
 -- before and after it.
 
 -- The walk is over, and has come to this.
-abbrev pub ComesTo : (mode h : ℕ) (was : List ℕ) (k : ℕ) → Stream → Type 0
-ComesTo mode h was k r = (ts : List Token) → kind ts ≡ k → stream ts (mode_of mode) (opened h was) ≡ r
+abbrev pub ComesTo : (mode : Mode) (h : ℕ) (was : List Open) (k : Kind) → Stream → Type 0
+ComesTo mode h was k r = (ts : List Token) → Is k ts → stream ts (mode_of mode) (opened h was) ≡ r
 
-module _ (mode h : ℕ) (was now : List ℕ) (k : ℕ) where
+module _ (mode : Mode) (h : ℕ) (was now : List Open) (k : Kind) where
   -- The latest that is open is closed; it is no bracket.
-  pub record Pops : Type 0 where
-    pub follows : mode ≡ 2
+  pub record Pops (o : Open) : Type 0 where
+    pub follows : mode ≡ Behind
     pub some : 1 ≤ h
-    pub no_bracket : 2 ≤ latest h was
+    pub waiting : Waiting o
     pub same : now ≡ was
-    pub goes : (ts : List Token) → kind ts ≡ k → stream ts behind (opened h was) ≡ closing (entry_of (latest h was)) ▸ stream ts behind (opened (h - 1) was)
+    pub goes : (ts : List Token) → Is k ts → stream ts behind (opened h was) ≡ closing (pending o) ▸ stream ts behind (opened (h - 1) was)
 
   -- The front token is taken. Then m is the mode and g are open: together at most one more than before.
-  pub record Shifts (m g : ℕ) : Type 0 where
-    pub taken : (1 ≤ k) × (k ≤ 10)
-    pub mode_next : (1 ≤ m) × (m ≤ 2)
-    pub low : g + m ≤ h + mode + 1
-    pub goes : (t : Token) (us : List Token) → kind_of t ≡ k → stream (t ∷ us) (mode_of mode) (opened h was) ≡ (puts t ▸▸ stream us (mode_of m) (opened g now))
+  pub record Shifts (m : Mode) (g : ℕ) : Type 0 where
+    pub taken : IsToken k
+    pub mode_next : 1 ≤ weight m
+    pub low : g + weight m ≤ h + weight mode + 1
+    pub goes : (t : Token) (us : List Token) → Is k (t ∷ us) → stream (t ∷ us) (mode_of mode) (opened h was) ≡ (puts t ▸▸ stream us (mode_of m) (opened g now))
 
   -- One of these.
   abbrev pub ActsBy : Act → Type 0
-  ActsBy Pop = Pops
+  ActsBy (Pop o) = Pops o
   ActsBy (Shift m g) = Shifts m g
   ActsBy Ended = ComesTo mode h was k ended
   ActsBy Broken = ComesTo mode h was k broken

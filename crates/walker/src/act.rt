@@ -1,143 +1,193 @@
 // One act of the walk: what is open is closed, or the front token is taken.
-ghost use Rattle.std.specs.Prelude.{◌≡◌, true, List, ℕ, ◌+◌, ◌<◌, ◌≤◌, length};
-ghost use Rattle.walker.specs.Acts.{Acts, latest, entry_of, closes_from, pushed_by};
+ghost use Rattle.std.specs.Prelude.{◌≡◌, true, false, List, ◌+◌, ◌<◌, ◌≤◌, length};
+ghost use Rattle.walker.specs.Acts.{Follows, weight, latest, reach_of, closed_by, closer_of, opened_by, IsBracket, Acts};
+
+use lexer::token::Kind;
+
+// Where the walk stands: before the first production, where an item must begin, or behind a primary.
+#[derive(Clone, Copy, PartialEq, Eq)]
+pub enum Mode {
+    Start,
+    Want,
+    Behind,
+}
+
+// What is open: a bracket, an operator in angle brackets, alternatives or a row that wait for what follows, a prefix that waits for its operand.
+#[derive(Clone, Copy, PartialEq, Eq)]
+pub enum Open {
+    Bracket,
+    Angle,
+    Choice,
+    Sequence,
+    And,
+    Not,
+}
+
+// How far what comes next behind a primary closes what is open: another item prefixes, another alternative rows too, and an end all but brackets.
+#[derive(Clone, Copy, PartialEq, Eq)]
+enum Reach {
+    Item,
+    Alternative,
+    End,
+}
 
 // What is done: the latest that is open is closed; the front token is taken, which leaves this mode and this many open; or the walk is over, at its end or broken.
 #[derive(Clone, Copy)]
 pub(crate) enum Act {
-    Pop,
-    Shift(u8, usize),
+    Pop(Open),
+    Shift(Mode, usize),
     Ended,
     Broken,
 }
 
-// The latest that is open.
-fn last_open(stack: &[u8; 65536], height: usize) -> u8
+// The latest that is open; a bracket where nothing is, since that too is closed by no token of another kind.
+fn last_open(stack: &[Open; 65536], height: usize) -> Open
     requires { height ≤ 65536 }
     ensures { result ≡ latest height stack.now }
 {
     if height == 0 {
-        return 0;
+        return Open::Bracket;
     }
     stack[height - 1]
 }
 
 // Whether a token of this kind is a `)`, and the latest that is open a `(`.
-pub(crate) fn shuts(stack: &[u8; 65536], height: usize, kind: u8) -> bool
+pub(crate) fn shuts(stack: &[Open; 65536], height: usize, kind: Kind) -> bool
     requires { height ≤ 65536 }
-    ensures { result ≡ true → (kind ≡ 3) × (1 ≤ height) × (latest height stack.now ≡ 0) }
+    ensures { result ≡ true → (kind ≡ Kind.Right) × (1 ≤ height) × (latest height stack.now ≡ Open.Bracket) }
 {
-    if kind != 3 {
-        return false;
-    }
-    if height == 0 {
-        return false;
-    }
-    stack[height - 1] == 0
+    kind == Kind::Right && 0 < height && last_open(stack, height) == Open::Bracket
 }
 
-// The least of what is open that a token of this kind closes.
-fn closes_from(kind: u8) -> u8
-    ensures { result ≡ closes_from kind }
-{
-    if kind < 4 {
-        return 2;
-    }
-    if kind == 4 {
-        return 3;
-    }
-    4
-}
-
-// What a token of this kind opens where an item must begin: `<`, `(`, `&` and `!`.
-fn entry(kind: u8) -> u8
-    ensures { entry_of result ≡ pushed_by kind }
+// How far a token of this kind closes.
+fn reach_of(kind: Kind) -> Reach
+    ensures { result ≡ reach_of kind }
 {
     match kind {
-        6 => 1,
-        7 => 0,
-        8 => 4,
-        _ => 5,
+        Kind::End | Kind::Head | Kind::Closes | Kind::Right => Reach::End,
+        Kind::Slash => Reach::Alternative,
+        _ => Reach::Item,
+    }
+}
+
+// Whether that closes what is open.
+fn closes(reach: Reach, last: Open) -> bool
+    ensures { result ≡ closed_by reach last }
+{
+    match last {
+        Open::Bracket | Open::Angle => false,
+        Open::Choice => reach == Reach::End,
+        Open::Sequence => reach != Reach::Item,
+        Open::And | Open::Not => true,
+    }
+}
+
+// The kind of token that closes a bracket: `)`, or `>`.
+fn closer(last: Open) -> Kind
+    ensures { result ≡ closer_of last }
+{
+    match last {
+        Open::Bracket => Kind::Right,
+        _ => Kind::Closes,
+    }
+}
+
+// What a token of this kind opens where an item must begin, if it does.
+fn entry(kind: Kind) -> Option<Open>
+    ensures { result ≡ opened_by kind }
+{
+    match kind {
+        Kind::Opens(_) => Some(Open::Angle),
+        Kind::Left => Some(Open::Bracket),
+        Kind::And => Some(Open::And),
+        Kind::Not => Some(Open::Not),
+        _ => None,
     }
 }
 
 // Where an item must begin.
-fn wants(stack: &mut [u8; 65536], height: usize, kind: u8) -> Act
+fn wants(stack: &mut [Open; 65536], height: usize, kind: Kind) -> Act
     requires { (length stack.old ≡ 65536) × (height < 65536) }
-    ensures { Acts 1 height stack.old stack.new kind result }
+    ensures { Acts Mode.Want height stack.old stack.new kind result }
 {
-    if 6 <= kind {
-        if kind <= 9 {
-            stack[height] = entry(kind);
-            return Act::Shift(1, height + 1);
+    if let Kind::Leaf(_) = kind {
+        return Act::Shift(Mode::Behind, height);
+    }
+    match entry(kind) {
+        Some(begun) => {
+            stack[height] = begun;
+            Act::Shift(Mode::Want, height + 1)
         }
-        return Act::Broken;
+        None => Act::Broken,
     }
-    if kind == 5 {
-        return Act::Shift(2, height);
-    }
-    Act::Broken
 }
 
-// Behind a primary, where an end comes and closes no more than a bracket: `)` is of kind 3 and closes a 0, `>` is of kind 2 and closes a 1.
-fn ends(height: usize, last: u8, kind: u8) -> Act
-    requires { (last < 2) × (kind ≤ 3) }
-    ensures { (s : List ℕ) → latest height s ≡ last → Acts 2 height s s kind result }
+// Behind a primary, where an end comes and nothing is open.
+fn bottom(kind: Kind) -> Act
+    requires { reach_of kind ≡ Reach.End }
+    ensures { (s : List Open) → Acts Mode.Behind 0 s s kind result }
+{
+    match kind {
+        Kind::End => Act::Ended,
+        Kind::Head => Act::Shift(Mode::Want, 0),
+        _ => Act::Broken,
+    }
+}
+
+// Behind a primary, where an end comes and closes no more than a bracket.
+fn ends(height: usize, last: Open, kind: Kind) -> Act
+    requires { IsBracket last × (reach_of kind ≡ Reach.End) }
+    ensures { (s : List Open) → latest height s ≡ last → Acts Mode.Behind height s s kind result }
 {
     if height == 0 {
-        if kind == 0 {
-            return Act::Ended;
-        }
-        if kind == 1 {
-            return Act::Shift(1, 0);
-        }
-        return Act::Broken;
+        return bottom(kind);
     }
-    if last + kind == 3 {
-        return Act::Shift(2, height - 1);
+    if kind == closer(last) {
+        return Act::Shift(Mode::Behind, height - 1);
     }
     Act::Broken
 }
 
-// Behind a primary.
-fn follows(stack: &mut [u8; 65536], height: usize, kind: u8) -> Act
-    requires { (length stack.old ≡ 65536) × (height + 1 < 65536) }
-    ensures { Acts 2 height stack.old stack.new kind result }
+// Behind a primary, where no suffix comes.
+fn follows(stack: &mut [Open; 65536], height: usize, kind: Kind) -> Act
+    requires { (length stack.old ≡ 65536) × (height + 1 < 65536) × Follows kind }
+    ensures { Acts Mode.Behind height stack.old stack.new kind result }
 {
-    if kind == 10 {
-        return Act::Shift(2, height);
-    }
-    if 11 <= kind {
-        return Act::Broken;
-    }
     let last = last_open(stack, height);
-    if closes_from(kind) <= last {
-        return Act::Pop;
+    let reach = reach_of(kind);
+    if closes(reach, last) {
+        return Act::Pop(last);
     }
-    if kind < 4 {
-        return ends(height, last, kind);
+    match reach {
+        Reach::End => ends(height, last, kind),
+        Reach::Alternative => {
+            stack[height] = Open::Choice;
+            Act::Shift(Mode::Want, height + 1)
+        }
+        Reach::Item => {
+            stack[height] = Open::Sequence;
+            wants(stack, height + 1, kind)
+        }
     }
-    if kind == 4 {
-        stack[height] = 2;
-        return Act::Shift(1, height + 1);
-    }
-    stack[height] = 3;
-    wants(stack, height + 1, kind)
 }
 
-// One act of the walk: mode 0 before the first production, 1 where an item must begin, 2 behind a primary.
-pub(crate) fn one_act(stack: &mut [u8; 65536], height: usize, mode: u8, kind: u8) -> Act
-    requires { (length stack.old ≡ 65536) × (height + mode ≤ 65536) × (mode ≤ 2) }
+// One act of the walk.
+pub(crate) fn one_act(stack: &mut [Open; 65536], height: usize, mode: Mode, kind: Kind) -> Act
+    requires { (length stack.old ≡ 65536) × (height + weight mode ≤ 65536) }
     ensures { Acts mode height stack.old stack.new kind result }
 {
-    if mode == 2 {
-        return follows(stack, height, kind);
+    match mode {
+        Mode::Start => {
+            if kind == Kind::Head {
+                return Act::Shift(Mode::Want, 0);
+            }
+            Act::Broken
+        }
+        Mode::Want => wants(stack, height, kind),
+        Mode::Behind => match kind {
+            Kind::After(_) => Act::Shift(Mode::Behind, height),
+            Kind::Bad => Act::Broken,
+            _ => follows(stack, height, kind),
+        },
     }
-    if mode == 1 {
-        return wants(stack, height, kind);
-    }
-    if kind == 1 {
-        return Act::Shift(1, 0);
-    }
-    Act::Broken
 }

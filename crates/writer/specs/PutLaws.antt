@@ -1,6 +1,6 @@
 -- What was put down in two goes was put down in one; how long numbers are.
 use Rattle.std.specs.Prelude.{ℕ, zero, suc, ◌+◌, ◌*◌, ◌/◌, ◌%◌, ◌≤◌, ◌<◌, ◌≡◌, refl, Bool, true, false, List, [], ◌∷◌, ◌++◌, ltb, length, take, get_or, set}
-use Rattle.std.proofs.Common.{ap, sym, ◌∙◌, append_assoc, append-nil, arith, add-one, div-add-mod', length-append, length-set, take_all, take-suc, take-suc-set, ltb-true, ltb-false, lt-ltb, le-ltb}
+use Rattle.std.proofs.Common.{ap, sym, ◌∙◌, append_assoc, append-nil, arith, add-one, div-add-mod', length-append, length-set, take-suc, take-suc-set, ltb-true, ltb-false, lt-ltb, le-ltb, take_all}
 use Rattle.format.specs.Reading.{pick}
 use Rattle.format.specs.Number.{two_groups, groups}
 use Rattle.format.specs.Written.{written, numbers, encode_node}
@@ -64,14 +64,6 @@ numbers_most (n ∷ ns) = omega (arith, length-append (groups n) (numbers ns), g
 -- A tag and a number of one group take two bytes.
 pub one_group : (n : ℕ) → n < 128 → length (numbers (4 ∷ n ∷ [])) ≡ 2
 one_group n h = rw (groups_small n h)
-
-pub wrote_last : {was now : List ℕ} {at next : ℕ} (n : ℕ) → Wrote was at now next (groups n) → Wrote was at now next (numbers (n ∷ []))
-wrote_last n w = wrote_as (sym (append-nil (groups n))) w
-
-pub wrote_both :
-    {was mid now : List ℕ} {at i next : ℕ} (xs ys : List ℕ) → Wrote was at mid i (numbers xs) → Wrote mid i now next (numbers ys)
-    → Wrote was at now next (numbers (xs ++ ys))
-wrote_both xs ys f g = wrote_as (sym (written_on groups xs ys)) (wrote_on f g)
 
 -- ## A number, group by group
 
@@ -172,15 +164,28 @@ adds_on {xs = xs} {ys = ys} f g = record {
 pub room_as : {out : List ℕ} {m : Made} {n k : ℕ} → n ≡ k → Room out m n → Room out m k
 room_as e r = rw e at r
 
-pub room_less : {out : List ℕ} {m : Made} {n j : ℕ} (k : ℕ) → n ≡ j → k ≤ j → Room out m n → Room out m k
-room_less k e h r = record { long = r.long; low = r.low; few = omega (arith, r.few) }
-
 -- Where there was room for more nodes than were added, there is room for the others.
 pub room_left : {was now : List ℕ} {m r : Made} {xs : List Expr} {n : ℕ} (k : ℕ) → Room was m n → Adds was m now r xs → length xs + k ≤ n → Room now r k
 room_left k o a h = record { long = a.wrote.long ∙ o.long; low = a.low; few = omega (arith, o.few, a.many) }
 
 -- ## Rows of numbers
 
+-- Before a number of a row there is room for it, where there is for the whole row.
+pub numbers_up_to : (ns : List ℕ) (i : ℕ) → i < length ns → length (numbers (take i ns)) + length (groups (get_or ns i 0)) ≤ length (numbers ns)
+numbers_up_to [] i h = absurd (omega arith)
+numbers_up_to (n ∷ ns) zero h = omega (arith, length-append (groups n) (numbers ns))
+numbers_up_to (n ∷ ns) (suc i) h =
+    omega (arith, length-append (groups n) (numbers (take i ns)), length-append (groups n) (numbers ns), numbers_up_to ns i (omega arith))
+
+pub row_more :
+    {was mid now : List ℕ} {at next end : ℕ} (row : List ℕ) (i : ℕ) → i < length row → Wrote was at mid next (numbers (take i row))
+    → Wrote mid next now end (groups (get_or row i 0)) → Wrote was at now end (numbers (take (i + 1) row))
+row_more row i h l w =
+    wrote_as
+    (rw (add-one i, take-suc row i 0 h, written_on groups (take i row) (get_or row i 0 ∷ []), append-nil (groups (get_or row i 0))))
+    (wrote_on l w)
+
+-- Numbers of two groups take two bytes each.
 pub groups_two : (n : ℕ) → n < 16384 → length (groups n) ≤ 2
 groups_two n h = go (ltb n 128) refl
   where
@@ -189,6 +194,22 @@ groups_two n h = go (ltb n 128) refl
     go false e =
         let q : n / 128 < 128 = omega (arith, div-add-mod' n 128) in
         rw (groups_large n (ltb-false n 128 e), two_small (n / 128) q) (omega arith)
+
+pub small_most : (ns : List ℕ) → AllSmall ns → length (numbers ns) ≤ 2 * length ns
+small_most [] s = omega arith
+small_most (n ∷ ns) s = omega (arith, length-append (groups n) (numbers ns), groups_two n s.0, small_most ns s.1)
+
+-- One number, and one row behind another.
+pub wrote_last : {was now : List ℕ} {at next : ℕ} (n : ℕ) → Wrote was at now next (groups n) → Wrote was at now next (numbers (n ∷ []))
+wrote_last n w = wrote_as (sym (append-nil (groups n))) w
+
+pub wrote_both :
+    {was mid now : List ℕ} {at i next : ℕ} (xs ys : List ℕ) → Wrote was at mid i (numbers xs) → Wrote mid i now next (numbers ys)
+    → Wrote was at now next (numbers (xs ++ ys))
+wrote_both xs ys f g = wrote_as (sym (written_on groups xs ys)) (wrote_on f g)
+
+pub room_less : {out : List ℕ} {m : Made} {n j : ℕ} (k : ℕ) → n ≡ j → k ≤ j → Room out m n → Room out m k
+room_less k e h r = record { long = r.long; low = r.low; few = omega (arith, r.few) }
 
 pub small_at : (ns : List ℕ) (i : ℕ) → i < length ns → AllSmall ns → get_or ns i 0 < 16384
 small_at [] i h s = absurd (omega arith)

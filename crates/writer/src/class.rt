@@ -1,37 +1,33 @@
 // A class as nodes: its parts, and then the choices over them, the last two first.
 ghost use Rattle.std.specs.Prelude.{◌≡◌, [], ◌∷◌, map, ℕ, suc, ◌+◌, ◌-◌, ◌≤◌, length, drop};
 ghost use Rattle.notation.specs.Tree.{Name};
-ghost use Rattle.notation.specs.Lexer.{range};
 ghost use Rattle.notation.specs.At.{parts_of, class_of};
 ghost use Rattle.notation.specs.Compile.{part_node, choices, leaf_count, leaf_nodes};
-ghost use Rattle.chars.specs.Meant.{ClassAt};
+ghost use Rattle.chars.specs.Meant.{ClassAt, from_to};
 ghost use Rattle.writer.specs.Put.{Room, Adds};
 
-use crate::node::{Made, add_one, add_two};
-use chars::class::part_at;
+use crate::node::{Made, add};
+use chars::class::{Part, class};
 
-// A part: the bytes from lo to hi.
-fn add_part(out: &mut [u8], m: Made, lo: u16, hi: u16) -> Made
+// The node of a part.
+fn add_part(out: &mut [u8], m: Made, p: Part) -> Made
     requires { Room out.old m 1 }
-    ensures { Adds out.old m out.new result (part_node (range lo hi) ∷ []) }
+    ensures { Adds out.old m out.new result (part_node (from_to p) ∷ []) }
 {
-    if lo == hi {
-        return add_one(out, m, 1, lo);
+    if p.lo == p.hi {
+        return add(out, m, &[1, u16::from(p.lo)]);
     }
-    add_two(out, m, 2, lo, hi)
+    add(out, m, &[2, u16::from(p.lo), u16::from(p.hi)])
 }
 
-// The parts of the class at `start`.
+// The parts of the class at `start`. A loop as in quoted text, but what goes round it is a `Made`, with another promise.
 fn add_parts(text: &[u8], out: &mut [u8], m: Made, start: usize) -> Made
     requires { ClassAt text.now start × Room out.old m (length (parts_of (drop start text.now))) }
     ensures { Adds out.old m out.new result (map part_node (parts_of (drop start text.now))) }
 {
     let mut r = m;
-    let mut i = start + 1;
-    while text[i] != b']' {
-        let p = part_at(text, i);
-        r = add_part(out, r, p.lo, p.hi);
-        i = p.next;
+    for p in class(text, start) {
+        r = add_part(out, r, p);
     }
     r
 }
@@ -42,10 +38,8 @@ fn add_choices(out: &mut [u8], m: Made, k: usize, n: usize) -> Made
     ensures { Adds out.old m out.new result (choices k n (k + n) (suc (k + n))) }
 {
     let mut r = m;
-    let mut left = n;
-    while 0 < left {
-        left -= 1;
-        r = add_two(out, r, 6, (k + left) as u16, (r.nodes - 1) as u16);
+    for i in (0..n).rev() {
+        r = add(out, r, &[6, (k + i) as u16, (r.nodes - 1) as u16]);
     }
     r
 }

@@ -3,21 +3,7 @@ ghost use Rattle.std.specs.Prelude.{[], ◌∷◌, ◌++◌, ◌+◌, ◌*◌, �
 ghost use Rattle.format.specs.Written.{numbers};
 ghost use Rattle.writer.specs.Put.{Wrote, AllSmall};
 
-use crate::out::{put_number, put_two};
-
-// A row of numbers, each of at most two groups.
-fn put_row(out: &mut [u8], at: usize, row: &[u16]) -> usize
-    requires { AllSmall row.now × (at + 2 * length row.now ≤ length out.old) }
-    ensures { Wrote out.old at out.new result (numbers row.now) }
-{
-    let mut next = at;
-    let mut i = 0;
-    while i < row.len() {
-        next = put_number(out, next, row[i]);
-        i += 1;
-    }
-    next
-}
+use crate::out::put_row;
 
 // How many tables, conditions and nodes there are, and the start node; then the patterns.
 pub fn write_head(
@@ -30,8 +16,13 @@ pub fn write_head(
     requires { (32 ≤ length out.old) × (length patterns.now ≤ 8) × AllSmall (switches ∷ nodes ∷ start ∷ patterns.now) }
     ensures { Wrote out.old 0 out.new result (numbers (1 ∷ length patterns.now ∷ switches ∷ nodes ∷ start ∷ []) ++ numbers patterns.now) }
 {
-    let next = put_two(out, 0, 1, patterns.len() as u16);
-    let last = put_two(out, next, switches as u16, nodes as u16);
-    let end = put_number(out, last, start as u16);
+    let heading = [
+        1,
+        patterns.len() as u16,
+        switches as u16,
+        nodes as u16,
+        start as u16,
+    ];
+    let end = put_row(out, 0, &heading);
     put_row(out, end, patterns)
 }

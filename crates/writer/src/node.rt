@@ -1,10 +1,10 @@
 // Nodes put down in a lent buffer: a tag, and then the operands.
-ghost use Rattle.std.specs.Prelude.{◌≡◌, [], ◌∷◌};
+ghost use Rattle.std.specs.Prelude.{◌≡◌, [], ◌∷◌, ◌≤◌, length};
 ghost use Rattle.format.specs.Written.{numbers, encode_node};
 ghost use Rattle.grammar.specs.Expr.{Expr};
 ghost use Rattle.writer.specs.Put.{Room, Adds};
 
-use crate::out::{put_number, put_two};
+use crate::out::put_row;
 
 // How many nodes were written, and how many bytes they take.
 #[derive(Clone, Copy)]
@@ -13,49 +13,14 @@ pub struct Made {
     pub length: usize,
 }
 
-// A node without operands.
-pub(crate) fn add_tag(out: &mut [u8], m: Made, tag: u16) -> Made
-    requires { Room out.old m 1 }
-    ensures { (x : Expr) → encode_node x ≡ numbers (tag ∷ []) → Adds out.old m out.new result (x ∷ []) }
+// A node: its tag and its operands, in a row.
+pub(crate) fn add(out: &mut [u8], m: Made, row: &[u16]) -> Made
+    requires { Room out.old m 1 × (length row.now ≤ 22) }
+    ensures { (x : Expr) → encode_node x ≡ numbers row.now → Adds out.old m out.new result (x ∷ []) }
 {
-    let end = put_number(out, m.length, tag);
+    let length = put_row(out, m.length, row);
     Made {
         nodes: m.nodes + 1,
-        length: end,
-    }
-}
-
-pub(crate) fn add_one(out: &mut [u8], m: Made, tag: u16, a: u16) -> Made
-    requires { Room out.old m 1 }
-    ensures { (x : Expr) → encode_node x ≡ numbers (tag ∷ a ∷ []) → Adds out.old m out.new result (x ∷ []) }
-{
-    let end = put_two(out, m.length, tag, a);
-    Made {
-        nodes: m.nodes + 1,
-        length: end,
-    }
-}
-
-pub(crate) fn add_two(out: &mut [u8], m: Made, tag: u16, a: u16, b: u16) -> Made
-    requires { Room out.old m 1 }
-    ensures { (x : Expr) → encode_node x ≡ numbers (tag ∷ a ∷ b ∷ []) → Adds out.old m out.new result (x ∷ []) }
-{
-    let at = put_two(out, m.length, tag, a);
-    let end = put_number(out, at, b);
-    Made {
-        nodes: m.nodes + 1,
-        length: end,
-    }
-}
-
-pub(crate) fn add_three(out: &mut [u8], m: Made, tag: u16, a: u16, b: u16, c: u16) -> Made
-    requires { Room out.old m 1 }
-    ensures { (x : Expr) → encode_node x ≡ numbers (tag ∷ a ∷ b ∷ c ∷ []) → Adds out.old m out.new result (x ∷ []) }
-{
-    let at = put_two(out, m.length, tag, a);
-    let end = put_two(out, at, b, c);
-    Made {
-        nodes: m.nodes + 1,
-        length: end,
+        length,
     }
 }

@@ -4,12 +4,7 @@ ghost use Rattle.format.specs.Number.{groups};
 ghost use Rattle.format.specs.Written.{numbers};
 ghost use Rattle.writer.specs.Put.{Wrote};
 
-pub(crate) fn wide(b: u8) -> u16
-    ensures { result ≡ b }
-{
-    b as u16
-}
-
+// A byte.
 pub(crate) fn put_byte(out: &mut [u8], at: usize, b: u8) -> usize
     requires { at < length out.old }
     ensures { Wrote out.old at out.new result (b ∷ []) }
@@ -25,6 +20,7 @@ pub(crate) fn put_number(out: &mut [u8], at: usize, n: u16) -> usize
 {
     let mut next = at;
     let mut left = n;
+    // No range: it goes on while more than a group is left.
     while 128 <= left {
         out[next] = (left % 128 + 128) as u8;
         next += 1;
@@ -34,11 +30,14 @@ pub(crate) fn put_number(out: &mut [u8], at: usize, n: u16) -> usize
     next + 1
 }
 
-// Two numbers, one after the other.
-pub(crate) fn put_two(out: &mut [u8], at: usize, a: u16, b: u16) -> usize
-    requires { at + length (numbers (a ∷ b ∷ [])) ≤ length out.old }
-    ensures { Wrote out.old at out.new result (numbers (a ∷ b ∷ [])) }
+// A row of numbers, one after the other.
+pub(crate) fn put_row(out: &mut [u8], at: usize, row: &[u16]) -> usize
+    requires { at + length (numbers row.now) ≤ length out.old }
+    ensures { Wrote out.old at out.new result (numbers row.now) }
 {
-    let next = put_number(out, at, a);
-    put_number(out, next, b)
+    let mut next = at;
+    for n in row {
+        next = put_number(out, next, *n);
+    }
+    next
 }

@@ -6,23 +6,18 @@ ghost use Rattle.notation.specs.Compile.{text_node};
 ghost use Rattle.chars.specs.Meant.{QuotedAt};
 ghost use Rattle.writer.specs.Put.{Wrote, Room, Adds};
 
-use crate::node::{Made, add_one, add_tag};
-use crate::out::{put_byte, put_two};
-use chars::quoted::quoted_length;
-use chars::written::char_at;
+use crate::node::{Made, add};
+use crate::out::{put_byte, put_row};
+use chars::quoted::{quoted, quoted_length};
 
 // The bytes that the quoted text at `start` stands for.
 fn put_quoted(text: &[u8], out: &mut [u8], at: usize, start: usize) -> usize
     requires { QuotedAt text.now start × (at + length (quoted_of (drop start text.now)) ≤ length out.old) }
     ensures { Wrote out.old at out.new result (quoted_of (drop start text.now)) }
 {
-    let mark = text[start];
     let mut next = at;
-    let mut i = start + 1;
-    while text[i] != mark {
-        let c = char_at(text, i);
-        next = put_byte(out, next, c.byte as u8);
-        i = c.next;
+    for b in quoted(text, start) {
+        next = put_byte(out, next, b);
     }
     next
 }
@@ -32,7 +27,7 @@ fn add_text(text: &[u8], out: &mut [u8], m: Made, start: usize, n: u16) -> Made
     requires { QuotedAt text.now start × (n ≡ length (quoted_of (drop start text.now))) × (n ≤ 64) × Room out.old m 1 }
     ensures { Adds out.old m out.new result (Text (quoted_of (drop start text.now)) ∷ []) }
 {
-    let at = put_two(out, m.length, 4, n);
+    let at = put_row(out, m.length, &[4, n]);
     let end = put_quoted(text, out, at, start);
     Made {
         nodes: m.nodes + 1,
@@ -45,13 +40,12 @@ pub(crate) fn add_quoted(text: &[u8], out: &mut [u8], m: Made, start: usize) -> 
     requires { QuotedAt text.now start × (length (quoted_of (drop start text.now)) ≤ 64) × Room out.old m 1 }
     ensures { Adds out.old m out.new result (text_node (quoted_of (drop start text.now)) ∷ []) }
 {
+    let Some(b) = quoted(text, start).next() else {
+        return add(out, m, &[0]);
+    };
     let n = quoted_length(text, start);
-    if n == 0 {
-        return add_tag(out, m, 0);
-    }
     if n == 1 {
-        let c = char_at(text, start + 1);
-        return add_one(out, m, 1, c.byte);
+        return add(out, m, &[1, u16::from(b)]);
     }
     add_text(text, out, m, start, n as u16)
 }

@@ -1,7 +1,7 @@
 -- What a run's outcome answers and leaves is what the definition says.
 use Rattle.std.specs.Prelude.{ℕ, zero, suc, ◌+◌, ◌-◌, ◌*◌, ◌≤◌, ◌<◌, max, ◌≡◌, List, [], ◌∷◌, ◌++◌, length, drop, get_or, replicate}
 use Rattle.std.proofs.Math.Path.{refl, ap, sym, subst}
-use Rattle.std.proofs.Common.{◌∙◌, append_assoc, length-append, length-drop, take-suc, length-take-le}
+use Rattle.std.proofs.Common.{◌∙◌, append_assoc, take-suc, length-append, length-take-le, length-drop}
 use native.Mathlib.Omega.{arith}
 use Rattle.std.proofs.Math.ListN.{take}
 use Rattle.std.proofs.Math.Seq.{take_at}
@@ -11,21 +11,23 @@ use Rattle.meaning.specs.Outcome.{pass, fail}
 use Rattle.meaning.specs.Cost.{Cost}
 use Rattle.meaning.specs.Run.{Result, ran, refused}
 use Rattle.meaning.specs.Recognise.{answer_of, flat, slots_after, from_start}
-use Rattle.meaning.proofs.Demands.{number_of}
 use Rattle.parts.specs.declared.outcome.Outcome as o
 use Rattle.parts.specs.declared.outcome.Outcome.TheVariants as ov
 use Rattle.parts.specs.Slots.{symbol_at, symbols}
 use Rattle.parts.specs.SlotsLaws.{symbols_length}
-use Rattle.parts.specs.Packed.{at_of, held_of, steps_of, depth_of, opened_of}
+use Rattle.parts.specs.declared.outcome.Stop.{Stop}
+use Rattle.parts.specs.declared.outcome.Packed.{Packed}
+use Rattle.parts.specs.Packed.{number_of as stop_number, at_of, held_of, steps_of, depth_of, opened_of}
 use Rattle.kinds.specs.declared.state.State as st
 use Rattle.kinds.specs.Held.{env_of}
 use Rattle.kinds.specs.Turned.{Bounds}
-use Rattle.machine.specs.Told.{carry, tells}
-use Rattle.machine.specs.Ready.{image_of, grammar_of, step_limit, depth_limit, room_limit, Ready, Node, Numbered, Starts, read_back, Done, telling, running, saying}
+use Rattle.machine.specs.Told.{Told, carry, tells}
+use Rattle.machine.specs.Ready.{image_of, grammar_of, step_limit, depth_limit, room_limit, Ready, Node, read_back, Done, telling}
 use Rattle.machine.specs.ReadyLaws.{bounds_of}
 use Rattle.machine.specs.StartLaws.{Has, in_one, as_parts}
 use Rattle.yarnspire.specs.declared.answer.Answer as face
 use Rattle.yarnspire.specs.Answer.{numbers, six_of, Listed}
+use Rattle.yarnspire.specs.RefusalLaws.{listed}
 use Rattle.yarnspire.specs.Ended.{answer_for, kept_of, Kept, Runs, left_by, Ran}
 
 -- The first h symbols laid flat are the first 3h slot numbers.
@@ -93,7 +95,7 @@ module _ (g : Grammar) (x : List ℕ) (B D R long : ℕ) (slots : List ℕ) (len
     passing : {n n' h s d : ℕ} {τ : State} {c : Cost} → n ≡ n' → symbols h slots ≡ τ → s ≡ c.steps → d ≡ c.depth
         → Ends (ov.Passed n h s d) (ran (pass n' τ) c)
     failing : {s d : ℕ} {c : Cost} → s ≡ c.steps → d ≡ c.depth → Ends (ov.Failed s d) (ran fail c)
-    stopping : {k k' p p' s d : ℕ} {c : Cost} → k ≡ k' → p ≡ p' → s ≡ c.steps → d ≡ c.depth → Ends (ov.Refused k p s d) (refused k' p' c)
+    stopping : {k : Stop} {k' p p' s d : ℕ} {c : Cost} → stop_number k ≡ k' → p ≡ p' → s ≡ c.steps → d ≡ c.depth → Ends (ov.Refused k p s d) (refused k' p' c)
 
   ends : (out : o.Outcome) (r : Result) → read_back out slots ≡ carry 0 0 0 r → Ends out r
   ends (ov.Passed n h s d) (ran (pass n' τ) c) e = let es : s ≡ 0 + c.steps = cc in let ed : d ≡ max 0 (0 + c.depth) = cc in let en : n ≡ n' = cc in let eτ : symbols h slots ≡ τ = cc in let fs : s ≡ c.steps = omega arith in let fd : d ≡ c.depth = omega arith in passing en eτ fs fd
@@ -104,7 +106,7 @@ module _ (g : Grammar) (x : List ℕ) (B D R long : ℕ) (slots : List ℕ) (len
   ends (ov.Failed s d) (refused k p c) e = let z : ◌≡◌ {A = ℕ} 0 1 = cc in absurd (omega arith)
   ends (ov.Refused k p s d) (ran (pass n τ) c) e = let z : ◌≡◌ {A = ℕ} 0 1 = cc in absurd (omega arith)
   ends (ov.Refused k p s d) (ran fail c) e = let z : ◌≡◌ {A = ℕ} 0 1 = cc in absurd (omega arith)
-  ends (ov.Refused k p s d) (refused k' p' c) e = let es : s ≡ 0 + c.steps = cc in let ed : d ≡ max 0 (0 + c.depth) = cc in let ek : k ≡ k' = cc in let ep : p ≡ p' = cc in let fs : s ≡ c.steps = omega arith in let fd : d ≡ c.depth = omega arith in stopping ek ep fs fd
+  ends (ov.Refused k p s d) (refused k' p' c) e = let es : s ≡ 0 + c.steps = cc in let ed : d ≡ max 0 (0 + c.depth) = cc in let ek : stop_number k ≡ k' = cc in let ep : p ≡ p' = cc in let fs : s ≡ c.steps = omega arith in let fd : d ≡ c.depth = omega arith in stopping ek ep fs fd
 
   ended : Ends out X
   ended = ends out X from_start_lem
@@ -136,12 +138,7 @@ module _ (g : Grammar) (x : List ℕ) (B D R long : ℕ) (slots : List ℕ) (len
       go (stopping a b e f) l = none
 
   pub ends_listed : Listed (answer_for out)
-  ends_listed = go X refl ended
-    where
-      go : {w : o.Outcome} (r : Result) → from_start g x B D R ≡ r → Ends w r → Listed (answer_for w)
-      go _ q (passing a b e f) = tt
-      go _ q (failing e f) = tt
-      go _ q (stopping a b e f) = let l = number_of g x B D R q in (omega (arith, l, a), omega (arith, l, a))
+  ends_listed = listed (answer_for out)
 
 -- ## The run from the start
 
@@ -172,12 +169,8 @@ module _ {code image input slots : List ℕ} {start : ℕ} (runs : Runs code ima
   start_numbered : Node image start
   start_numbered = subst (λ n. n < size g) (sym runs.begins) runs.coded.sound.start_named
 
-  -- The number that it starts from has nothing in any part.
-  start_has : Has 0 0 0 0 0
-  unfolding at_of held_of steps_of depth_of
-  start_has = record { place = refl; names = refl; spent = refl; deepest = refl }
-
-  module _ (bytes : List ℕ) (held : bytes ≡ image ++ drop (length image) (replicate 16384 0)) where
+  -- What it starts from has nothing in any part.
+  module _ {from : Packed} (empty : Has from 0 0 0 0) (bytes : List ℕ) (held : bytes ≡ image ++ drop (length image) (replicate 16384 0)) where
     -- The image is the front of the bytes that are lent.
     lent_image : image_of code bytes ≡ image
     unfolding image_of
@@ -185,22 +178,26 @@ module _ {code image input slots : List ℕ} {start : ℕ} (runs : Runs code ima
         ap (λ n. take n bytes) runs.counted ∙ ap (take (length image)) held
         ∙ take_at image (drop (length image) (replicate 16384 0)) (length image) refl
 
-    pub start_asks : Starts code bytes input store (depth_limit code) 0 × Numbered code bytes start × (steps_of 0 < step_limit code) × (1 ≤ depth_limit code)
-    unfolding steps_of
+    pub start_asks : Ready code (image_of code bytes) input store (depth_limit code) (at_of from) (held_of from) (steps_of from) (depth_of from)
+        × Node (image_of code bytes) start × (steps_of from < step_limit code) × (1 ≤ depth_limit code)
     start_asks =
         let q = sym lent_image in (
-          in_one start_has bytes (subst (λ i. Ready code i input store (depth_limit code) 0 0 0 0) q start_ready),
+          in_one empty (subst (λ i. Ready code i input store (depth_limit code) 0 0 0 0) q start_ready),
           subst (λ i. Node i start) q start_numbered,
-          omega (arith, runs.ranges.some_steps),
+          omega (arith, empty.spent, runs.ranges.some_steps),
           runs.ranges.some_depth,
         )
 
-    module _ (state : st.State) (truths : env_of state ≡ outset) {after : List ℕ} {r : ℕ}
-        (ends : Done (held_of 0) store after r (saying code bytes input state store (depth_limit code) 0 start)) where
+    abbrev said_at : (state : st.State) (steps depth at : ℕ) (σ : State) → Told
+    said_at state s d p σ =
+        telling code (image_of code bytes) input state (depth_limit code) s d (node (grammar_of (image_of code bytes)) start) p σ
+
+    module _ (state : st.State) (truths : env_of state ≡ outset) {after : List ℕ} {r : Packed}
+        (ends : Done (held_of from) store after r (said_at state (steps_of from) (depth_of from) (at_of from) (symbols (held_of from) store))) where
       done : Done 0 store after r (telling code image input state (depth_limit code) 0 0 (node g start) 0 (symbols 0 store))
       done =
           subst (λ i. Done 0 store after r (telling code i input state (depth_limit code) 0 0 (node (grammar_of i) start) 0 (symbols 0 store))) lent_image
-          (as_parts start_has (λ p h s d. running code bytes input state (depth_limit code) s d start p (symbols h store)) ends)
+          (as_parts empty (λ p h s d. said_at state s d p (symbols h store)) ends)
 
       bounded : Bounds (length input) 0 0 (room_limit code) (opened_of r)
       bounded = bounds_of state (node g start) start_ready done
@@ -234,6 +231,4 @@ module _ {code image input slots : List ℕ} {start : ℕ} (runs : Runs code ima
       start_ends e f = record {
         answers = ap six_of e ∙ ends_six g input (step_limit code) (depth_limit code) (room_limit code) (length slots) after runs.lent (opened_of r) kept_fits says;
         leaves = f ∙ ends_left g input (step_limit code) (depth_limit code) (room_limit code) (length slots) after runs.lent (opened_of r) kept_fits says;
-        listed =
-            subst Listed (sym e) (ends_listed g input (step_limit code) (depth_limit code) (room_limit code) (length slots) after runs.lent (opened_of r) kept_fits says);
       }

@@ -7,8 +7,9 @@ use Rattle.meaning.specs.Recognise.{answer_of, flat, from_start}
 use Rattle.meaning.specs.Demands.{Ranges}
 use Rattle.parts.specs.declared.outcome.Outcome as o
 use Rattle.parts.specs.declared.outcome.Outcome.TheVariants as ov
+use Rattle.yarnspire.specs.declared.answer.Refusal.TheVariants.{Run}
 use Rattle.machine.specs.Ready.{grammar_of, step_limit, depth_limit, room_limit, Coded}
-use Rattle.yarnspire.specs.Answer.{six_of, Listed}
+use Rattle.yarnspire.specs.Answer.{six_of}
 use Rattle.yarnspire.specs.declared.answer.Answer.{Answer}
 use Rattle.yarnspire.specs.declared.answer.Answer.TheVariants.{Accepted, Failed, Refused}
 
@@ -16,7 +17,7 @@ use Rattle.yarnspire.specs.declared.answer.Answer.TheVariants.{Accepted, Failed,
 abbrev pub answer_for : o.Outcome → Answer
 answer_for (ov.Passed a h s d) = Accepted a s d h
 answer_for (ov.Failed s d) = Failed s d
-answer_for (ov.Refused n p s d) = Refused n p s d
+answer_for (ov.Refused k p s d) = Refused (Run k) p s d
 
 -- How many slot numbers are handed over.
 abbrev pub kept_of : o.Outcome → ℕ
@@ -55,4 +56,3 @@ result_of code image input = from_start (grammar_of image) input (step_limit cod
 pub record Ran (code image input after : List ℕ) (a : Answer) : Type 0 where
   pub answers : six_of a ≡ answer_of (result_of code image input)
   pub leaves : after ≡ left_by (room_limit code) (result_of code image input)
-  pub listed : Listed a

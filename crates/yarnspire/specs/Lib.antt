@@ -1,5 +1,6 @@
 -- What the public face promises, and the theorems about the promises.
 pub mod Answer
+pub mod RefusalLaws
 pub mod Ended
 pub mod Promise
 pub mod EndLaws

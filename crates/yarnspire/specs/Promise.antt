@@ -1,5 +1,5 @@
 -- What the public functions promise, for every image, input, limits and slot buffer.
-use Rattle.std.specs.Prelude.{ℕ, ◌≤◌, ◌≡◌, List, ◌↔◌, ◌⊎◌, length, take}
+use Rattle.std.specs.Prelude.{ℕ, Result, Ok, Err, ◌≤◌, ◌≡◌, List, ◌↔◌, ◌⊎◌, length, take}
 use Rattle.grammar.specs.Grammar.{Grammar}
 use Rattle.format.specs.Image.{read_image}
 use Rattle.format.specs.RoundTrip.{Stands, Refuses}
@@ -7,21 +7,23 @@ use Rattle.meaning.specs.Outcome.{Outcome}
 use Rattle.meaning.specs.Cost.{Cost}
 use Rattle.meaning.specs.Recognise.{Answer, recognise}
 use Rattle.meaning.specs.Demands.{Entered, Recognises, Derivable, Stops, Demand2, Demand3, Fixed}
-use Rattle.yarnspire.specs.declared.answer.Verdict.{Verdict}
-use Rattle.yarnspire.specs.declared.answer.Verdict.TheVariants.{Good, Refused as Faulty}
+use Rattle.reader.specs.declared.refusal.Refusal.{Refusal}
+use Rattle.reader.specs.Meant.{number_of as fault_number}
+use Rattle.image.specs.Meant.{checked, verdict}
 use Rattle.yarnspire.specs.declared.answer.Answer as code
-use Rattle.yarnspire.specs.Answer.{verdict_of, number_of, place_of, numbers, Kind, six_of, Listed}
+use Rattle.yarnspire.specs.Answer.{number_of, place_of, numbers, Kind, six_of, Listed}
 
--- Check. The case, the number and the place are what reading the image front to back finds; in words: it is good exactly if the image is
--- the writing of a sound grammar and at most 16,384 bytes long, and a refusal is one of 1 to 8 with what `Refuses` says of its place.
-pub record Checks (image : List ℕ) (r : Verdict) : Type 0 where
-  pub is : r ≡ verdict_of (read_image image)
-  pub good : (r ≡ Good) ↔ ((g : Grammar) × Stands image g)
-  pub refused : (number place : ℕ) → r ≡ Faulty number place → Refuses image number place
+-- Check. What is said, the fault's number and the place are what reading the image front to back finds (`checked` and `verdict` in `image`); in words: it is
+-- good exactly if the image is the writing of a sound grammar and at most 16,384 bytes long, and a refusal is one of 1 to 8 with what `Refuses` says of its
+-- place.
+pub record Checks (image : List ℕ) (r : Result (Unit {0}) Refusal) : Type 0 where
+  pub is : checked r ≡ verdict (read_image image)
+  pub good : (r ≡ Ok tt) ↔ ((g : Grammar) × Stands image g)
+  pub refused : (f : Refusal) → r ≡ Err f → Refuses image (fault_number f.fault) f.place
 
 -- The same in two numbers: 0 and 0 for good.
 pub record Numbers (image : List ℕ) (number place : ℕ) : Type 0 where
-  pub verdict : Verdict
+  pub verdict : Result (Unit {0}) Refusal
   pub checks : Checks image verdict
   pub number_is : number ≡ number_of verdict
   pub place_is : place ≡ place_of verdict

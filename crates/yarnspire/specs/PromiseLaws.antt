@@ -1,5 +1,5 @@
 -- How the promises are met: what the definitions say is enough.
-use Rattle.std.specs.Prelude.{ℕ, ◌+◌, ◌*◌, ◌≤◌, ◌<◌, ◌≡◌, refl, Bool, true, false, not, List, [], ◌++◌, ◌⊎◌, length, take, drop, get_or, set}
+use Rattle.std.specs.Prelude.{Result as Returned, Ok, Err, ℕ, ◌+◌, ◌*◌, ◌≤◌, ◌<◌, ◌≡◌, refl, Bool, true, false, not, List, [], ◌++◌, ◌⊎◌, length, take, drop, get_or, set}
 use Rattle.std.proofs.Common.{ap, sym, ◌∙◌, subst, inl, inr, arith, length-set, get_or-set_other, get_or-set_same, length-take-le}
 use Rattle.grammar.specs.Grammar.{Grammar, node}
 use Rattle.grammar.specs.Sound.{Bytes}
@@ -7,12 +7,12 @@ use Rattle.format.specs.Image.{Checked, good, refused, read_image}
 use Rattle.format.specs.RoundTrip as round
 use Rattle.format.proofs.RoundTrip as round_proved
 use Rattle.image.specs.Filled.{Loads}
-use Rattle.image.specs.Meant.{answered, verdict}
-use Rattle.image.specs.declared.walk.Verdict.{Verdict as Said}
+use Rattle.format.specs.Image.{Head as Sizes}
+use Rattle.image.specs.Meant.{fine, answered, loaded, checked, verdict}
+use Rattle.image.specs.declared.head.Head.{Head}
 use Rattle.image.specs.Node.{node_of, expr_of, InImage}
-use Rattle.reader.specs.declared.number.Refusal.{Refusal}
-use Rattle.image.specs.declared.walk.Loaded.{Loaded}
-use Rattle.image.specs.declared.walk.Loaded.TheVariants.{Good as Whole, Refused as Bad}
+use Rattle.reader.specs.declared.refusal.Refusal.{Refusal}
+use Rattle.reader.specs.Meant.{number_of}
 use Rattle.meaning.specs.State.{outset}
 use Rattle.meaning.specs.Unique.{true≢false}
 use Rattle.meaning.proofs.Exact.{exact, cut_exactly, at_most_one}
@@ -24,48 +24,51 @@ use Rattle.meaning.specs.Recognise.{Answer, allowed, answer_of, refusal, slots_a
 use Rattle.meaning.specs.Demands as d
 use Rattle.meaning.proofs.Demands as d_proved
 use Rattle.machine.specs.Ready.{of_checked, grammar_of, step_limit, depth_limit, room_limit, Coded}
-use Rattle.yarnspire.specs.declared.answer.Verdict.{Verdict}
-use Rattle.yarnspire.specs.declared.answer.Verdict.TheVariants.{Good, Refused as Faulty}
 use Rattle.yarnspire.specs.declared.answer.Answer as code
 use Rattle.yarnspire.specs.declared.answer.Answer.TheVariants.{Refused}
-use Rattle.yarnspire.specs.Answer.{verdict_of, numbers, Kind, six_of, Listed}
+use Rattle.yarnspire.specs.Answer.{numbers, Kind, six_of, refusal_number}
+use Rattle.yarnspire.specs.Answer.{number_of as face_number}
+use Rattle.yarnspire.specs.RefusalLaws.{fault_range, listed}
+use Rattle.yarnspire.specs.declared.answer.Refusal as why
 use Rattle.yarnspire.specs.Ended.{Runs, left_by, result_of, Ran}
 use Rattle.yarnspire.specs.EndLaws.{left_and_rest}
 use Rattle.yarnspire.specs.Promise.{Checks, Answers, Recognised}
 
 -- ## Check
 
+-- A fault that is said is the one that was found.
+pub is_faulty : (k : Checked) {r : Returned (Unit {0}) Refusal} {f : Refusal} → r ≡ Err f → checked r ≡ verdict k → k ≡ refused (number_of f.fault) f.place
+is_faulty (good g) e h = let z : ◌≡◌ {A = ℕ} 0 1 = cc in absurd (omega arith)
+is_faulty (refused n p) {f = f} e h =
+    let number : n ≡ number_of f.fault = cc in let place : p ≡ f.place = cc in λ i. refused (number i) (place i)
+
 module _ (image : List ℕ) (bytes : Bytes image) where
-  pub checks : {r : Verdict} → r ≡ verdict_of (read_image image) → Checks image r
+  pub checks : {r : Returned (Unit {0}) Refusal} → checked r ≡ verdict (read_image image) → Checks image r
   checks {r} e = record {
     is = e;
-    good = ((λ h. stands (read_image image) refl (sym e ∙ h)), λ h. e ∙ ap verdict_of ((round_proved.exact image bytes h.0).1 h.1));
-    refused = λ n p h. round_proved.refusal image bytes n p (faulty (read_image image) (sym e ∙ h));
+    good = (
+      (λ h. stands (read_image image) refl (ap checked (sym h) ∙ e)),
+      λ h. is_fine r (e ∙ ap verdict ((round_proved.exact image bytes h.0).1 h.1)),
+    );
+    refused = λ f h. round_proved.refusal image bytes (number_of f.fault) f.place (is_faulty (read_image image) h e);
   }
     where
-      stands : (k : Checked) → read_image image ≡ k → verdict_of k ≡ Good → (g : Grammar) × round.Stands image g
+      stands : (k : Checked) → read_image image ≡ k → fine tt ≡ verdict k → (g : Grammar) × round.Stands image g
       stands (good g) q h = (g, (round_proved.exact image bytes g).0 q)
       stands (refused n p) q h = let z : ◌≡◌ {A = ℕ} 0 1 = cc in absurd (omega arith)
 
-      faulty : (k : Checked) {n p : ℕ} → verdict_of k ≡ Faulty n p → k ≡ refused n p
-      faulty (good g) h = let z : ◌≡◌ {A = ℕ} 0 1 = cc in absurd (omega arith)
-      faulty (refused m q) h = cc
-
-  -- Number 0 is good, and no other.
-  pub is_good : {v : Said} → v ≡ verdict (read_image image) → v.number ≡ 0 → Good ≡ verdict_of (read_image image)
-  is_good {v} e z = go (read_image image) refl (ap (λ v. v.number) (sym e) ∙ z)
-    where
-      go : (k : Checked) → read_image image ≡ k → (verdict k).number ≡ 0 → Good ≡ verdict_of k
-      go (good g) q h = refl
-      go (refused n p) q h = absurd (omega (arith, (round_proved.refusal image bytes n p q).least))
+      is_fine : (r : Returned (Unit {0}) Refusal) → checked r ≡ fine tt → r ≡ Ok tt
+      is_fine (Ok _) h = refl
+      is_fine (Err f) h = let z : ◌≡◌ {A = ℕ} 0 1 = cc in absurd (omega arith)
 
   -- The place of a fault fits 32 bits.
   pub fault_small : {n p : ℕ} → read_image image ≡ refused n p → p ≤ 16384
   fault_small {n} {p} e = (round_proved.refusal image bytes n p e).small
 
-pub is_faulty : (k : Checked) {v : Said} → v ≡ verdict k → (v.number ≡ 0 → ⊥) → Faulty v.number v.place ≡ verdict_of k
-is_faulty (good g) e f = absurd (f (ap (λ v. v.number) e))
-is_faulty (refused n p) e f = λ i. Faulty (e i).number (e i).place
+-- Number 0 is good, and no other.
+pub is_good : (r : Returned (Unit {0}) Refusal) → face_number r ≡ 0 → r ≡ Ok tt
+is_good (Ok _) e = refl
+is_good (Err f) e = absurd (omega (arith, e, (fault_range f.fault).0))
 
 -- ## Recognise
 
@@ -125,23 +128,26 @@ pub written : {image input : List ℕ} {B D R : ℕ} {before after : List ℕ} {
 written {image} {input} {B} {D} {R} {before} {after} e h = subst (Answers image input B D R before after) (sym e) h
 
 -- A refusal before the run leaves the slots untouched.
-pub refuses : {image input : List ℕ} {B D R : ℕ} {slots : List ℕ} {r : code.Answer} (n place : ℕ) → Bytes image → r ≡ Refused n place 0 0
-    → 1 ≤ n → n ≤ 15 → recognise image input B D R slots ≡ refusal n place slots → Recognised image input B D R slots slots r
-refuses {slots = slots} n place bytes e l m q = record {
+pub refuses : {image input : List ℕ} {B D R : ℕ} {slots : List ℕ} {r : code.Answer} (w : why.Refusal) (place : ℕ) → Bytes image → r ≡ Refused w place 0 0
+    → recognise image input B D R slots ≡ refusal (refusal_number w) place slots → Recognised image input B D R slots slots r
+refuses {slots = slots} {r = r} w place bytes e q = record {
   answers = answers bytes (ap (λ a. record { answer = six_of a; slots = slots }) e ∙ sym q);
-  listed = subst Listed (sym e) (l, m);
+  listed = listed r;
 }
 
 -- ## What the walk over the image found
 
-pub found_fault : (k : Checked) {r : Loaded} {f : Refusal} → r ≡ Bad f → r ≡ answered k → k ≡ refused f.number f.place
+pub found_fault :
+    (k : Checked) {r : Returned Head Refusal} {f : Refusal} → r ≡ Err f → loaded r ≡ answered k → k ≡ refused (number_of f.fault) f.place
 found_fault (good g) e h = let z : ◌≡◌ {A = ℕ} 0 1 = cc in absurd (omega arith)
 found_fault (refused n p) {f = f} e h =
-    let q : record { number = n; place = p } ≡ f = cc in
-    λ i. refused (q i).number (q i).place
+    let number : n ≡ number_of f.fault = cc in let place : p ≡ f.place = cc in λ i. refused (number i) (place i)
 
-pub found_good : (k : Checked) {r : Loaded} {t c n s : ℕ} → r ≡ Whole t c n s → r ≡ answered k → (g : Grammar) × (k ≡ good g) × (s ≡ g.start)
-found_good (good g) e h = (g, refl, cc)
+pub found_good : (k : Checked) {r : Returned Head Refusal} {l : Head} → r ≡ Ok l → loaded r ≡ answered k → (g : Grammar) × (k ≡ good g) × (l.start ≡ g.start)
+found_good (good g) {l = l} e h = let same : loaded (Ok l) ≡ answered (good g) = cc in (g, refl, start same)
+  where
+    start : {h k : Sizes} → fine h ≡ fine k → h.start ≡ k.start
+    start {h} {k} e = let same : h ≡ k = cc in ap (λ h. h.start) same
 found_good (refused n p) e h = let z : ◌≡◌ {A = ℕ} 0 1 = cc in absurd (omega arith)
 
 pub grammar_is : (image : List ℕ) (g : Grammar) → read_image image ≡ good g → grammar_of image ≡ g
@@ -150,7 +156,7 @@ grammar_is image g e = ap of_checked e
 
 -- ## The run
 
-module _ {image : List ℕ} {g : Grammar} (e : read_image image ≡ good g) (bytes : Bytes image) {before array : List ℕ} {r : Loaded} (loads : Loads image before array r)
+module _ {image : List ℕ} {g : Grammar} (e : read_image image ≡ good g) (bytes : Bytes image) {before array : List ℕ} {r : Returned Head Refusal} (loads : Loads image before array r)
     (B D R : ℕ) (long : length array ≡ 524) where
   abbrev limited : List ℕ
   limited = set (set (set (set array 520 B) 521 D) 522 R) 523 (length image)
@@ -220,5 +226,5 @@ module _ {image : List ℕ} {g : Grammar} (e : read_image image ≡ good g) (byt
         ∙ ap (λ n. left_by R X ++ drop n slots) three ∙ left_and_rest R X slots in
         record {
           answers = answers bytes ((λ i. record { answer = (left_here.answers ∙ ap answer_of is_run) i; slots = left i }) ∙ sym (d.runs E));
-          listed = left_here.listed;
+          listed = listed a;
         }

@@ -64,7 +64,7 @@ module _ {image input : List ℕ} {B D R B' D' R' : ℕ} {before after before' a
   -- So is the answer of recognise,
   pub raised_answer : {r r' : Answer} → Recognised image input B D R before after r → Settled (six_of r) → Raises B D R B' D' R' before'
       → Recognised image input B' D' R' before' after' r' → r' ≡ r
-  raised_answer {r} {r'} h settled l h' = same_answer r' r h'.listed h.listed (raised h.answers settled l h'.answers).0
+  raised_answer {r} {r'} h settled l h' = same_answer r' r (raised h.answers settled l h'.answers).0
 
   -- and the accepted text.
   pub raised_text : {a a' : m.Answer} {t t' : List ℕ} → Texts image input B D R before after a t → Settled a → Raises B D R B' D' R' before'

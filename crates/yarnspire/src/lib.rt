@@ -12,74 +12,61 @@ mod answer;
 mod run;
 mod written;
 
-pub use answer::{Answer, Verdict};
-pub use compiler::image::Compiled;
-use image::walk::{Loaded, load};
+pub use answer::{Answer, Refusal};
+pub use compiler::refusal::{Refusal as TextRefusal, Slip};
+use machine::evaluate::{DEPTH_LIMIT, IMAGE_LENGTH, ROOM_LIMIT, STEP_LIMIT};
+pub use parts::outcome::Stop;
+pub use reader::{Fault, Refusal as ImageRefusal};
+pub use run::Limits;
 use run::{allowed, run};
 pub use written::{compile, yarnspire_compile};
 
-// Says whether an image is good, or its first fault.
-pub fn check(image: &[u8]) -> Verdict
+// Says whether an image is good, or its first fault and where that is.
+pub fn check(image: &[u8]) -> Result<(), ImageRefusal>
     ensures { Checks image.now result }
 {
-    let verdict = image::walk::check(image);
-    if verdict.number == 0 {
-        return Verdict::Good;
-    }
-    Verdict::Refused {
-        number: verdict.number,
-        place: verdict.place,
-    }
+    image::check(image)
 }
 
 // A refusal before the run.
-fn refuse(number: u32, place: u32) -> Answer
-    ensures { result ≡ Answer.Refused number place 0 0 }
+fn refuse(refusal: Refusal, place: u32) -> Answer
+    ensures { result ≡ Answer.Refused refusal place 0 0 }
 {
     Answer::Refused {
-        number,
+        refusal,
         place,
         steps: 0,
         depth: 0,
     }
 }
 
-// Runs an input through the grammar of an image. `steps`, `depth` and `room` are 01's limits B, D and R. Accepted fills the slots with table,
-// start and end of each held symbol, oldest first, and zeros up to 3R; failed and 12 to 15 put zeros there; 1 to 11 leave them as they are. What
-// lies past 3R keeps its values.
-pub fn recognise(
-    image: &[u8],
-    input: &[u8],
-    steps: u32,
-    depth: u32,
-    room: u32,
-    slots: &mut [u32],
-) -> Answer
-    ensures { Recognised image.now input.now steps depth room slots.old slots.new result }
+// Runs an input through the grammar of an image. Accepted fills the slots with table, start and end of each held symbol, oldest first, and zeros up
+// to 3R; failed and 12 to 15 put zeros there; 1 to 11 leave them as they are. What lies past 3R keeps its values.
+pub fn recognise(image: &[u8], input: &[u8], limits: Limits, slots: &mut [u32]) -> Answer
+    ensures { Recognised image.now input.now limits.steps limits.depth limits.room slots.old slots.new result }
 {
     let mut code = [0u32; 524];
-    let loaded = load(image, &mut code);
-    let start = match loaded {
-        Loaded::Good(_, _, _, start) => start,
-        Loaded::Refused(f) => return refuse(f.number, f.place as u32),
+    let head = match image::load(image, &mut code) {
+        Ok(head) => head,
+        Err(found) => return refuse(Refusal::Image(found.fault), found.place as u32),
     };
     if 65535 < input.len() {
-        return refuse(9, 0);
+        return refuse(Refusal::Input, 0);
     }
-    if !allowed(steps, depth, room) {
-        return refuse(10, 0);
+    if !allowed(limits) {
+        return refuse(Refusal::Limits, 0);
     }
-    let lent = (room * 3) as usize;
+    let lent = (limits.room * 3) as usize;
     if slots.len() < lent {
-        return refuse(11, 0);
+        return refuse(Refusal::Slots, 0);
     }
     // The limits stand behind the nodes and patterns. The last number, how many bytes the image has, is read by no code: the evaluator's promise needs
     // it, since the image reaches the evaluator in an array of a fixed length.
-    code[520] = steps;
-    code[521] = depth;
-    code[522] = room;
-    code[523] = image.len() as u32;
-    run(&code, image, input, &mut slots[..lent], start)
+    code[STEP_LIMIT] = limits.steps;
+    code[DEPTH_LIMIT] = limits.depth;
+    code[ROOM_LIMIT] = limits.room;
+    code[IMAGE_LENGTH] = image.len() as u32;
+    run(&code, image, input, &mut slots[..lent], head.start)
 }
 
 // The answer's six numbers, in their order.
@@ -117,12 +104,12 @@ fn write(
             *place = 0;
         }
         Answer::Refused {
-            number: n,
+            refusal,
             place: p,
             steps: s,
             depth: d,
         } => {
-            *kind = n;
+            *kind = refusal.number();
             *consumed = 0;
             *count = s;
             *deepest = d;
@@ -132,53 +119,49 @@ fn write(
     }
 }
 
-// Recognises, and hands back the accepted front of the input as a part of the caller's own bytes: empty where nothing is accepted. The
-// answer goes to six numbers in 01's order: kind (0 accepted, 99 failed, else the refusal's number), consumed, steps, greatest depth, symbols
-// held, place. (The promise fixes the bytes that are handed back; that they lie at the input's front is seen in the last line alone.)
+// An answer, and the accepted front of the input as a part of the caller's own bytes: empty where nothing is accepted. (The promise fixes the bytes
+// that are handed back; that they lie at the input's front is seen in the last line of `accepted_text` alone.)
+#[derive(Clone, Copy)]
+pub struct Recognition<'a> {
+    pub answer: Answer,
+    pub text: &'a [u8],
+}
+
+// Recognises, and hands back the accepted text with the answer.
 pub fn accepted_text<'a>(
     image: &[u8],
     input: &'a [u8],
-    steps: u32,
-    depth: u32,
-    room: u32,
+    limits: Limits,
     slots: &mut [u32],
-    kind: &mut u32,
-    consumed: &mut u32,
-    count: &mut u32,
-    deepest: &mut u32,
-    symbols: &mut u32,
-    place: &mut u32,
-) -> &'a [u8]
-    ensures { Texts image.now input.now steps depth room slots.old slots.new
-        (numbers kind.new consumed.new count.new deepest.new symbols.new place.new) result.now }
+) -> Recognition<'a>
+    ensures { Texts image.now input.now limits.steps limits.depth limits.room slots.old slots.new (six_of result.answer) result.text.now }
 {
-    let answer = recognise(image, input, steps, depth, room, slots);
-    write(answer, kind, consumed, count, deepest, symbols, place);
-    let n = *consumed as usize;
-    &input[..n]
+    let answer = recognise(image, input, limits, slots);
+    let text = match answer {
+        Answer::Accepted { consumed, .. } => &input[..consumed as usize],
+        _ => &input[..0],
+    };
+    Recognition { answer, text }
 }
 
 // For C and Rust: check, with number 0 and place 0 for good.
 pub fn yarnspire_check(image: &[u8], number: &mut u32, place: &mut u32)
     ensures { Numbers image.now number.new place.new }
 {
-    let verdict = check(image);
-    match verdict {
-        Verdict::Good => {
+    match check(image) {
+        Ok(()) => {
             *number = 0;
             *place = 0;
         }
-        Verdict::Refused {
-            number: n,
-            place: p,
-        } => {
-            *number = n;
-            *place = p;
+        Err(refusal) => {
+            *number = refusal.fault.number();
+            *place = refusal.place as u32;
         }
     }
 }
 
-// For C and Rust: recognise, with the answer in six numbers as `accepted_text` writes them. The accepted text is the input's first
+// For C and Rust: recognise, with the answer in six numbers in 01's order: kind (0 accepted, 99 failed, else the refusal's number), consumed, steps,
+// greatest depth, symbols held, place. The accepted text is the input's first
 // `consumed` bytes.
 pub fn yarnspire_recognise(
     image: &[u8],
@@ -197,6 +180,7 @@ pub fn yarnspire_recognise(
     ensures { Answers image.now input.now steps depth room slots.old slots.new
         (numbers kind.new consumed.new count.new deepest.new symbols.new place.new) }
 {
-    let answer = recognise(image, input, steps, depth, room, slots);
+    let limits = Limits { steps, depth, room };
+    let answer = recognise(image, input, limits, slots);
     write(answer, kind, consumed, count, deepest, symbols, place);
 }

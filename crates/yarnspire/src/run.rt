@@ -4,42 +4,41 @@ ghost use Rattle.meaning.specs.Recognise.{allowed as Recognise·allowed};
 ghost use Rattle.parts.specs.Packed.{opened_of};
 ghost use Rattle.yarnspire.specs.Ended.{answer_for, kept_of, Kept, Runs, Ran};
 
-use crate::answer::Answer;
+use crate::answer::{Answer, Refusal};
 use kinds::state::State;
-use machine::evaluate::inside;
-use parts::bytes::put;
-use parts::outcome::{Outcome, opened};
-use parts::slots::{fill, zero};
+use machine::evaluate::{DEPTH_LIMIT, Machine};
+use parts::outcome::{Outcome, Packed};
+
+// The limits of a run: 01's B, D and R.
+#[derive(Clone, Copy, PartialEq, Eq, Debug)]
+pub struct Limits {
+    pub steps: u32,
+    pub depth: u32,
+    pub room: u32,
+}
+
+impl Limits {
+    // The greatest limits there are.
+    pub const GREATEST: Limits = Limits {
+        steps: 1000000,
+        depth: 256,
+        room: 256,
+    };
+}
 
 // Whether each limit is within its range.
-pub(crate) fn allowed(steps: u32, depth: u32, room: u32) -> bool
-    ensures { result ≡ Recognise·allowed steps depth room }
+pub(crate) fn allowed(limits: Limits) -> bool
+    ensures { result ≡ Recognise·allowed limits.steps limits.depth limits.room }
 {
-    if steps == 0 {
-        return false;
-    }
-    if 1000000 < steps {
-        return false;
-    }
-    if depth == 0 {
-        return false;
-    }
-    if 256 < depth {
-        return false;
-    }
-    if 256 < room {
-        return false;
-    }
-    true
+    matches!(limits.steps, 1..=1000000) && matches!(limits.depth, 1..=256) && limits.room <= 256
 }
 
 // What an outcome answers; the slots get its symbols from the store, and zeros follow.
-fn ended(slots: &mut [u32], store: &[u32; 768], r: u64) -> Answer
+fn ended(slots: &mut [u32], store: &[u32; 768], r: Packed) -> Answer
     requires { Kept (length slots.old) (opened_of r) }
     ensures { (result ≡ answer_for (opened_of r)) × (slots.new ≡ take (kept_of (opened_of r)) store.now ++ replicate (length slots.old - kept_of (opened_of r)) 0) }
 {
-    let outcome = opened(r);
-    match outcome {
+    match r.opened() {
         Outcome::Passed {
             at,
             held,
@@ -47,8 +46,9 @@ fn ended(slots: &mut [u32], store: &[u32; 768], r: u64) -> Answer
             depth,
         } => {
             let kept = (held * 3) as usize;
-            fill(slots, store, kept);
-            zero(slots, kept);
+            let (front, rest) = slots.split_at_mut(kept);
+            front.copy_from_slice(&store[..kept]);
+            rest.fill(0);
             Answer::Accepted {
                 consumed: at,
                 steps,
@@ -57,18 +57,18 @@ fn ended(slots: &mut [u32], store: &[u32; 768], r: u64) -> Answer
             }
         }
         Outcome::Failed { steps, depth } => {
-            zero(slots, 0);
+            slots.fill(0);
             Answer::Failed { steps, depth }
         }
         Outcome::Refused {
-            number,
+            stop,
             place,
             steps,
             depth,
         } => {
-            zero(slots, 0);
+            slots.fill(0);
             Answer::Refused {
-                number,
+                refusal: Refusal::Run(stop),
                 place,
                 steps,
                 depth,
@@ -91,12 +91,18 @@ pub(crate) fn run(
     ensures { Ran code.now image.now input.now slots.new result }
 {
     let mut bytes = [0u8; 16384];
-    put(&mut bytes, image);
+    bytes[..image.len()].copy_from_slice(image);
     let mut store = [0u32; 768];
     let state = State {
         truths: [true; 8],
         floors: [0u16; 8],
     };
-    let r = inside(code, &bytes, input, &mut store, state, code[521], start, 0);
+    let machine = Machine {
+        code,
+        image: &bytes,
+        input,
+    };
+    let from = Packed::passed(0, 0, 0, 0);
+    let r = machine.inside(&mut store, state, code[DEPTH_LIMIT], start, from);
     ended(slots, &store, r)
 }

@@ -1,11 +1,11 @@
 // Grammars as written: a text becomes an image.
 ghost use Rattle.yarnspire.specs.Compile.{Compiles, ThreeNumbers};
 
-use compiler::image::Compiled;
+use compiler::refusal::Refusal;
 
 // Writes the image of a grammar's text to the front of the buffer, and says how many bytes it has; what lies past them keeps its values. Or refuses, with a
 // number from 20 to 25 and the place in the text where the trouble is, and leaves the buffer as it is.
-pub fn compile(text: &[u8], image: &mut [u8]) -> Compiled
+pub fn compile(text: &[u8], image: &mut [u8]) -> Result<u32, Refusal>
     ensures { Compiles text.now image.old image.new result }
 {
     compiler::compile::compile(text, image)
@@ -22,17 +22,16 @@ pub fn yarnspire_compile(
 )
     ensures { ThreeNumbers text.now image.old image.new number.new size.new at.new }
 {
-    let compiled = compile(text, image);
-    match compiled {
-        Compiled::Written(n) => {
+    match compile(text, image) {
+        Ok(n) => {
             *number = 0;
             *size = n;
             *at = 0;
         }
-        Compiled::Refused { number: n, at: p } => {
-            *number = n;
+        Err(refusal) => {
+            *number = refusal.slip.number();
             *size = 0;
-            *at = p;
+            *at = refusal.place as u32;
         }
     }
 }

@@ -29,8 +29,8 @@ fill_roots-counted-requires c = let l = c.requires.1 in (
 pub slice_bounds-roots-end-2 : goal.slice_bounds-roots-end-2
 slice_bounds-roots-end-2 c = part_within c.fill_roots-counted.new.roots (replicate 512 0) (c.fill_roots-counted.auto.roots ∙ length-take-le (length c.args.heads.now) _ (listed_heads c.requires.1))
 
-pub slice_bounds-finish-end : goal.slice_bounds-finish-end
-slice_bounds-finish-end c = part_count c.fill_roots-counted.new.roots (replicate 512 0) (c.fill_roots-counted.auto.roots ∙ length-take-le (length c.args.heads.now) _ (listed_heads c.requires.1))
+pub slice_bounds-names-end : goal.slice_bounds-names-end
+slice_bounds-names-end c = part_count c.fill_roots-counted.new.roots (replicate 512 0) (c.fill_roots-counted.auto.roots ∙ length-take-le (length c.args.heads.now) _ (listed_heads c.requires.1))
 
 pub finish-requires : goal.finish-requires
 finish-requires c = (c.requires.0, numbered (replicate 512 0) c.requires.1 (c.fill_roots-counted.auto.roots ∙ length-take-le (length c.args.heads.now) _ (listed_heads c.requires.1)) c.fill_roots-counted.ensures)

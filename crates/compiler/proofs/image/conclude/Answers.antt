@@ -1,6 +1,5 @@
 -- `conclude` meets its promise. Assumes nothing.
 use native.Mathlib.Omega.{arith}
-use Rattle.notation.specs.SaidLaws.{refused_inside}
 use Rattle.compiler.proofs.AnswerLaws.{refuses}
 use Rattle.compiler.proofs.MadeLaws.{head_few, head_small, head_within, head_count, nodes_count, said_over, whole_short, whole_lent}
 use Rattle.compiler.proofs.image.conclude.Goals as goal
@@ -8,28 +7,21 @@ use Rattle.compiler.proofs.image.conclude.Goals as goal
 pub write_head-base-requires : goal.write_head-base-requires
 write_head-base-requires c = let m = c.requires.1 in (omega arith, head_few m, head_small m)
 
-pub overflow_cast-result : goal.overflow_cast-result
-overflow_cast-result c = omega (
-  arith,
-  c.requires.0,
-  refused_inside (said_over c.requires.1 c.write_head-base.ensures c.over_image-over.ensures c.requires.0 c.in-At.is 0),
-)
-
 pub slice_bounds-head-end : goal.slice_bounds-head-end
 slice_bounds-head-end c = head_within c.write_head-base.ensures
 
 pub slice_bounds-lend-end : goal.slice_bounds-lend-end
 slice_bounds-lend-end c = head_count c.write_head-base.ensures
 
-pub slice_bounds-lend-end-in-Nowhere : goal.slice_bounds-lend-end-in-Nowhere
-slice_bounds-lend-end-in-Nowhere c = nodes_count c.requires.1
+pub slice_bounds-lend-end-in-None : goal.slice_bounds-lend-end-in-None
+slice_bounds-lend-end-in-None c = nodes_count c.requires.1
 
 pub lend-requires : goal.lend-requires
-lend-requires c = whole_short c.requires.1 c.write_head-base.ensures c.over_image-over.ensures c.requires.0 c.in-Nowhere.is
+lend-requires c = whole_short c.requires.1 c.write_head-base.ensures c.over_image-over.ensures c.requires.0 c.in-None.is
 
-pub returns-in-At : goal.returns-in-At
-returns-in-At c = refuses (said_over c.requires.1 c.write_head-base.ensures c.over_image-over.ensures c.requires.0 c.in-At.is _)
+pub returns-in-Some : goal.returns-in-Some
+returns-in-Some c = refuses _ (said_over c.requires.1 c.write_head-base.ensures c.over_image-over.ensures c.requires.0 c.in-Some.is _)
 
-pub returns-in-Nowhere : goal.returns-in-Nowhere
-returns-in-Nowhere c = whole_lent c.requires.1 c.write_head-base.ensures c.over_image-over.ensures c.requires.0 c.in-Nowhere.is
+pub returns-in-None : goal.returns-in-None
+returns-in-None c = whole_lent c.requires.1 c.write_head-base.ensures c.over_image-over.ensures c.requires.0 c.in-None.is
     c.args.image.now c.lend.new.image c.lend.result c.lend.ensures

@@ -17,16 +17,16 @@ pub slice_bounds-patterns-end : goal.slice_bounds-patterns-end
 slice_bounds-patterns-end c = listed_tables c.requires.1.lists
 
 pub slice_bounds-emit-end-2 : goal.slice_bounds-emit-end-2
-slice_bounds-emit-end-2 c = sym (patterns_long c.args.tables.now (listed_tables c.requires.1.lists))
+slice_bounds-emit-end-2 c = sym (patterns_long c.args.names.tables.now (listed_tables c.requires.1.lists))
 
 pub emit-made-requires : goal.emit-made-requires
-emit-made-requires c = record { ready = ready c.requires.1 c.requires.0; lengths = (refl, patterns_long c.args.tables.now (listed_tables c.requires.1.lists), refl) }
+emit-made-requires c = record { ready = ready c.requires.1 c.requires.0; lengths = (refl, patterns_long c.args.names.tables.now (listed_tables c.requires.1.lists), refl) }
 
 pub slice_bounds-patterns-end-2 : goal.slice_bounds-patterns-end-2
-slice_bounds-patterns-end-2 c = part_within c.emit-made.new.patterns (replicate 8 0) (c.emit-made.auto.patterns ∙ patterns_long c.args.tables.now (listed_tables c.requires.1.lists))
+slice_bounds-patterns-end-2 c = part_within c.emit-made.new.patterns (replicate 8 0) (c.emit-made.auto.patterns ∙ patterns_long c.args.names.tables.now (listed_tables c.requires.1.lists))
 
 pub slice_bounds-conclude-end-2 : goal.slice_bounds-conclude-end-2
-slice_bounds-conclude-end-2 c = part_count c.emit-made.new.patterns (replicate 8 0) (c.emit-made.auto.patterns ∙ patterns_long c.args.tables.now (listed_tables c.requires.1.lists))
+slice_bounds-conclude-end-2 c = part_count c.emit-made.new.patterns (replicate 8 0) (c.emit-made.auto.patterns ∙ patterns_long c.args.names.tables.now (listed_tables c.requires.1.lists))
 
 pub conclude-requires : goal.conclude-requires
-conclude-requires c = (c.requires.0, makes c.requires.1 (replicate 8 0) (c.emit-made.auto.patterns ∙ patterns_long c.args.tables.now (listed_tables c.requires.1.lists)) c.emit-made.auto.ends c.emit-made.ensures)
+conclude-requires c = (c.requires.0, makes c.requires.1 (replicate 8 0) (c.emit-made.auto.patterns ∙ patterns_long c.args.names.tables.now (listed_tables c.requires.1.lists)) c.emit-made.auto.ends c.emit-made.ensures)

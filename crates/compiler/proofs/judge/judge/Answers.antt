@@ -1,9 +1,12 @@
 -- `judge` meets its promise. Assumes nothing.
+use Rattle.std.proofs.lemmas.Result.{err_from_is_err_and}
 use Rattle.compiler.proofs.RuledLaws.{whole_said, stopped_said}
 use Rattle.compiler.proofs.judge.judge.Goals as goal
 
-pub returns-in-Whole : goal.returns-in-Whole
-returns-in-Whole c = whole_said c.requires _ c.read_whole-reading.ensures c.in-Whole.is c.rules.ensures
+pub returns-in_err-read_whole : goal.returns-in_err-read_whole
+returns-in_err-read_whole c =
+    let p = err_from_is_err_and c.from_residual.result c.from_residual.ensures.1 in
+    rw (p.1, p.2) (stopped_said c.requires c.in_err-read_whole.ensures)
 
-pub returns-in-Stopped : goal.returns-in-Stopped
-returns-in-Stopped c = stopped_said c.requires c.read_whole-reading.ensures c.in-Stopped.is
+pub returns : goal.returns
+returns c = whole_said c.requires _ c.in_ok-read_whole.ensures c.rules.ensures

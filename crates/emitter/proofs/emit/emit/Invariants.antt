@@ -3,8 +3,8 @@ use Rattle.walker.specs.Walks.{to_go}
 use Rattle.emitter.proofs.EmitLaws.{Going}
 use Rattle.emitter.proofs.emit.emit.Given as goal
 
-abbrev pub invariant-loop-stack : goal.invariant-loop-stack
-invariant-loop-stack l = Going l.text l.heads l.roots l.tables l.switches l.out l.patterns l.ends l.stack l.done l.opened l.s l.w
+abbrev pub invariant-loop-symbol : goal.invariant-loop-symbol
+invariant-loop-symbol l = Going l.names.text.now l.names.heads.now l.names.roots.now l.names.tables.now l.names.switches.now l.out l.patterns l.ends l.stack l.done l.opened l.s l.w
 
-abbrev pub decreases-loop-stack : goal.decreases-loop-stack
-decreases-loop-stack l = to_go l.text l.w
+abbrev pub decreases-loop-symbol : goal.decreases-loop-symbol
+decreases-loop-symbol l = to_go l.names.text.now l.w

@@ -9,28 +9,24 @@ use Rattle.writer.specs.Named.{names_of}
 use Rattle.notation.specs.BelowLaws.{place_below}
 use Rattle.emitter.specs.Known.{Tells}
 use Rattle.emitter.specs.KnownLaws.{known_node, tells_put}
-use Rattle.emitter.proofs.MarkLaws.{brings_it, brings_none}
 use Rattle.emitter.proofs.pattern.end_pattern.Goals as goal
 
 pub bounds-patterns-i : goal.bounds-patterns-i
 bounds-patterns-i c = let a = c.args in
-    let t = name_at a.text.now a.p in
-    let ts = names_of a.text.now a.tables.now in
-    omega (arith, c.requires.1, c.place_of-i.ensures.0, place_below t ts (c.requires.2 c.if-mark-eq9.true), names_length a.text.now a.tables.now (length a.tables.now) (omega arith))
+    let t = name_at a.names.text.now a.opened.name in
+    let ts = names_of a.names.text.now a.names.tables.now in
+    omega (arith, c.requires.1, c.table-i.ensures.0, place_below t ts (c.requires.2 c.if-opened.true), names_length a.names.text.now a.names.tables.now (length a.names.tables.now) (omega arith))
 
-pub returns-then-mark-eq9 : goal.returns-then-mark-eq9
-returns-then-mark-eq9 c = let a = c.args in
-    let t = name_at a.text.now a.p in
-    let ts = names_of a.text.now a.tables.now in
+pub returns-then-opened : goal.returns-then-opened
+returns-then-opened c = let a = c.args in
+    let t = name_at a.names.text.now a.opened.name in
+    let ts = names_of a.names.text.now a.names.tables.now in
     record {
-      tells = λ f T. rw (brings_it a.mark t c.if-mark-eq9.true)
-          (subst (λ i. Tells (set a.patterns.now i a.node) ts (put t (ends_at a.node) f)) (sym c.place_of-i.ensures.0)
+      tells = λ f T. rw c.if-opened.true
+          (subst (λ i. Tells (set a.patterns.now i a.node) ts (put t (ends_at a.node) f)) (sym c.table-i.ensures.0)
           (rw (known_node a.node c.requires.3) at (tells_put a.patterns.now ts t f T c.requires.0 a.node)));
       long = simp length-set;
     }
 
-pub returns-else-mark-eq9 : goal.returns-else-mark-eq9
-returns-else-mark-eq9 c = let a = c.args in
-    let t = name_at a.text.now a.p in
-    let ts = names_of a.text.now a.tables.now in
-    record { tells = λ f T. rw (brings_none a.mark t c.if-mark-eq9.false) T; long = refl }
+pub returns-else-opened : goal.returns-else-opened
+returns-else-opened c = record { tells = λ f T. rw c.if-opened.false T; long = refl }

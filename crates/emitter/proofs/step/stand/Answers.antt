@@ -7,8 +7,8 @@ use Rattle.emitter.proofs.step.stand.Goals as goal
 
 pub settle-requires : goal.settle-requires
 settle-requires c = let a = c.args in
-    let l = leaf_at a.text.now a.t in
-    let n = leaf_length (production_by a.text.now a.heads.now a.roots.now) (place_by a.text.now a.tables.now) (place_by a.text.now a.switches.now) a.s.made.nodes l in
+    let l = leaf_at a.names.text.now a.t a.leaf in
+    let n = leaf_length (production_by a.names.text.now a.names.heads.now a.names.roots.now) (place_by a.names.text.now a.names.tables.now) (place_by a.names.text.now a.names.switches.now) a.s.made.nodes l in
     let m = c.add_leaf-m.ensures.many in
     let f = c.requires.room.1.few in
     let z = leaf_some l in

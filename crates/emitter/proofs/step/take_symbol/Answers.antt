@@ -1,136 +1,137 @@
 -- `take_symbol` meets its promise. Assumes nothing.
-use Prim.Native.Nat.{◌-◌}
-use mathlib.Core.Path.{subst}
-use native.Mathlib.Omega.{arith}
-use lib.ListN.{get_or}
+use Rattle.std.proofs.Common.{◌-◌, get_or, subst, sym, arith}
 use Rattle.notation.specs.At.{name_at}
 use Rattle.notation.specs.Compile.{leaf_count}
 use Rattle.lexer.specs.Meant.{leaf_at}
-use Rattle.walker.specs.SymbolLaws.{symbol_leaf, symbol_opener, symbol_plain}
+use Rattle.walker.specs.Walks.{symbol_at, Taken}
+use Rattle.writer.specs.declared.operator.Unary.TheVariants.{And, Not, After}
+use Rattle.writer.specs.declared.operator.Binary.TheVariants.{Sequence, Choice}
 use Rattle.writer.specs.Named.{names_of, place_by, production_by}
-use Rattle.emitter.specs.Shown.{Apt}
-use Rattle.emitter.specs.StepLaws.{room_for, unary, joining, shown_stand, shown_follow, shown_leave, shown_join, shown_enter, shown_begin}
-use Rattle.emitter.proofs.AptLaws.{symbol_named, symbol_leaves, given_leaf, given_opener, tells_length, latest_tabled, unary_asks, join_asks}
+use Rattle.writer.specs.Operator.{opener_token}
+use Rattle.emitter.specs.Shown.{Tabled, Apt}
+use Rattle.emitter.specs.StepLaws.{room_for, shown_stand, shown_follow, shown_leave, shown_join, shown_enter, shown_begin}
+use Rattle.emitter.proofs.AptLaws.{tells_length, latest_tabled, unary_asks, join_asks}
 use Rattle.emitter.proofs.step.take_symbol.Goals as goal
 
 pub begin-requires : goal.begin-requires
-begin-requires c =
-    let a = c.args in
-    let names = names_of a.text.now a.tables.now in
+begin-requires c = let a = c.args in
     let S = c.requires.shown.1 in
-    let h = subst (λ x. Apt names x a.s) (symbol_named a.text.now a.symbol a.t c.if-symbol-eq0.true) c.requires.shown.3 in
+    let h = subst (λ x. Apt (names_of a.names.text.now a.names.tables.now) (symbol_at a.names.text.now a.t x) a.s) c.in-Head.is c.requires.shown.3 in
     (omega (arith, S.long_ends), omega (arith, S.holds.low))
 
-pub returns-then-symbol-eq0 : goal.returns-then-symbol-eq0
-returns-then-symbol-eq0 c =
-    let a = c.args in
-    let calls = production_by a.text.now a.heads.now a.roots.now in
-    let tables = place_by a.text.now a.tables.now in
-    let switches = place_by a.text.now a.switches.now in
-    let e = symbol_named a.text.now a.symbol a.t c.if-symbol-eq0.true in
-    λ st S. rw e (shown_begin calls tables switches S (name_at a.text.now a.t.name) c.begin.ensures)
-
 pub stand-requires : goal.stand-requires
-stand-requires c =
-    let a = c.args in
-    let names = names_of a.text.now a.tables.now in
+stand-requires c = let a = c.args in
     let S = c.requires.shown.1 in
-    let h = subst (λ x. Apt names x a.s) (symbol_leaf a.text.now a.symbol a.t (omega arith) (omega arith)) c.requires.shown.3 in
+    let e = c.in-Leaf.is in
+    let l = c.in-Leaf.leaf in
+    let w = subst (Taken a.names.text.now a.t) e c.requires.ascending.2 in
+    let h = subst (λ x. Apt (names_of a.names.text.now a.names.tables.now) (symbol_at a.names.text.now a.t x) a.s) e c.requires.shown.3 in
     record {
-      ascending = (c.requires.ascending.0, c.requires.ascending.1, given_leaf a.text.now a.symbol a.t c.requires.ascending.3 (omega arith) (omega arith));
-      room = (h.0, room_for (leaf_count (leaf_at a.text.now a.t)) S.holds h.1, S.long_done, S.tall);
+      ascending = (c.requires.ascending.0, c.requires.ascending.1, record { at = w.at; lexed = w.lexed; kind = w.kind });
+      room = (h.0, room_for (leaf_count (leaf_at a.names.text.now a.t l)) S.holds h.1, S.long_done, S.tall);
     }
-
-pub returns-then-symbol-le9 : goal.returns-then-symbol-le9
-returns-then-symbol-le9 c =
-    let a = c.args in
-    let calls = production_by a.text.now a.heads.now a.roots.now in
-    let tables = place_by a.text.now a.tables.now in
-    let switches = place_by a.text.now a.switches.now in
-    let e = symbol_leaf a.text.now a.symbol a.t (omega arith) (omega arith) in
-    λ st S. rw e (shown_stand calls tables switches S (leaf_at a.text.now a.t) c.stand.ensures)
 
 pub enter-requires : goal.enter-requires
-enter-requires c =
-    let a = c.args in
-    let names = names_of a.text.now a.tables.now in
+enter-requires c = let a = c.args in
     let S = c.requires.shown.1 in
-    let h = subst (λ x. Apt names x a.s) (symbol_opener a.text.now a.symbol a.t (omega arith) (omega arith)) c.requires.shown.3 in
-    let o = given_opener a.text.now a.symbol a.t c.requires.ascending.3 (omega arith) (omega arith) in
+    let h = subst (λ x. Apt (names_of a.names.text.now a.names.tables.now) (symbol_at a.names.text.now a.t x) a.s) c.in-Opens.is c.requires.shown.3 in
     record {
-      ascending = (c.requires.ascending.1.tables_listed, tells_length a.patterns.now a.text.now a.tables.now c.requires.shown.0.known S.known_shown, h.0, o.0, o.1);
-      bounds = (omega (arith, o.2, c.requires.ascending.2), h.1, S.long_opened);
+      ascending = (
+        c.requires.ascending.1.tables_listed,
+        tells_length a.patterns.now a.names.text.now a.names.tables.now c.requires.shown.0.known S.known_shown,
+        subst (Tabled (names_of a.names.text.now a.names.tables.now)) (sym (opener_token a.names.text.now a.t c.in-Opens.opener)) h.0,
+      );
+      bounds = (h.1, S.long_opened);
     }
 
-pub returns-then-symbol-le13 : goal.returns-then-symbol-le13
-returns-then-symbol-le13 c =
-    let a = c.args in
-    let calls = production_by a.text.now a.heads.now a.roots.now in
-    let tables = place_by a.text.now a.tables.now in
-    let switches = place_by a.text.now a.switches.now in
-    let e = symbol_opener a.text.now a.symbol a.t (omega arith) (omega arith) in
-    λ st S. rw e (shown_enter calls tables switches S c.enter.ensures)
-
 pub leave-requires : goal.leave-requires
-leave-requires c =
-    let a = c.args in
-    let names = names_of a.text.now a.tables.now in
+leave-requires c = let a = c.args in
     let S = c.requires.shown.1 in
-    let h = subst (λ x. Apt names x a.s) (symbol_leaves a.text.now a.symbol a.t c.if-symbol-eq14.true) c.requires.shown.3 in
+    let h = subst (λ x. Apt (names_of a.names.text.now a.names.tables.now) (symbol_at a.names.text.now a.t x) a.s) c.in-Closes.is c.requires.shown.3 in
     record {
-      numbered = (c.requires.ascending.1, tells_length a.patterns.now a.text.now a.tables.now c.requires.shown.0.known S.known_shown, latest_tabled S h.1 c.requires.shown.2);
+      numbered = (c.requires.ascending.1, tells_length a.patterns.now a.names.text.now a.names.tables.now c.requires.shown.0.known S.known_shown, latest_tabled S h.1 c.requires.shown.2);
       room = (room_for 1 S.holds (omega arith), S.long_done, S.long_opened, h.0, S.tall, h.1, h.2);
     }
 
-pub returns-then-symbol-eq14 : goal.returns-then-symbol-eq14
-returns-then-symbol-eq14 c =
-    let a = c.args in
-    let calls = production_by a.text.now a.heads.now a.roots.now in
-    let tables = place_by a.text.now a.tables.now in
-    let switches = place_by a.text.now a.switches.now in
-    let names = names_of a.text.now a.tables.now in
-    let e = symbol_leaves a.text.now a.symbol a.t c.if-symbol-eq14.true in
-    let h = subst (λ x. Apt names x a.s) e c.requires.shown.3 in
-    λ st S. rw e (shown_leave calls tables switches S h.0 h.1 (c.leave.ensures.grows calls) c.leave.ensures.ends)
-
 pub follow-requires : goal.follow-requires
-follow-requires c =
-    let a = c.args in
-    let names = names_of a.text.now a.tables.now in
+follow-requires c = let a = c.args in
     let S = c.requires.shown.1 in
-    let h = subst (λ x. Apt names x a.s) (symbol_plain a.text.now a.symbol a.t (omega arith)) c.requires.shown.3 in
-    let u = unary_asks S a.symbol (unary a.symbol (omega arith) (omega arith)) h in
+    let u = unary_asks S And (subst (λ x. Apt (names_of a.names.text.now a.names.tables.now) (symbol_at a.names.text.now a.t x) a.s) c.in-And.is c.requires.shown.3) in
     (S.long_done, u.0, S.tall, u.1 (get_or a.done.now (a.s.complete - 1) 0))
 
-pub returns-then-symbol-le19 : goal.returns-then-symbol-le19
-returns-then-symbol-le19 c =
-    let a = c.args in
-    let calls = production_by a.text.now a.heads.now a.roots.now in
-    let tables = place_by a.text.now a.tables.now in
-    let switches = place_by a.text.now a.switches.now in
-    let names = names_of a.text.now a.tables.now in
-    let e = symbol_plain a.text.now a.symbol a.t (omega arith) in
-    let h = subst (λ x. Apt names x a.s) e c.requires.shown.3 in
-    let u = unary a.symbol (omega arith) (omega arith) in
-    λ st S. rw e (shown_follow calls tables switches S (unary_asks S a.symbol u h).0 a.symbol u c.follow.ensures)
+pub follow-requires-in-Not : goal.follow-requires-in-Not
+follow-requires-in-Not c = let a = c.args in
+    let S = c.requires.shown.1 in
+    let u = unary_asks S Not (subst (λ x. Apt (names_of a.names.text.now a.names.tables.now) (symbol_at a.names.text.now a.t x) a.s) c.in-Not.is c.requires.shown.3) in
+    (S.long_done, u.0, S.tall, u.1 (get_or a.done.now (a.s.complete - 1) 0))
+
+pub follow-requires-in-After : goal.follow-requires-in-After
+follow-requires-in-After c = let a = c.args in
+    let S = c.requires.shown.1 in
+    let u = unary_asks S (After c.in-After.suffix) (subst (λ x. Apt (names_of a.names.text.now a.names.tables.now) (symbol_at a.names.text.now a.t x) a.s) c.in-After.is c.requires.shown.3) in
+    (S.long_done, u.0, S.tall, u.1 (get_or a.done.now (a.s.complete - 1) 0))
 
 pub join-requires : goal.join-requires
-join-requires c =
-    let a = c.args in
-    let names = names_of a.text.now a.tables.now in
+join-requires c = let a = c.args in
     let S = c.requires.shown.1 in
-    let h = subst (λ x. Apt names x a.s) (symbol_plain a.text.now a.symbol a.t (omega arith)) c.requires.shown.3 in
-    let u = join_asks S a.symbol (joining a.symbol (omega arith) c.requires.ascending.3.most) h in
+    let u = join_asks S Sequence (subst (λ x. Apt (names_of a.names.text.now a.names.tables.now) (symbol_at a.names.text.now a.t x) a.s) c.in-Sequence.is c.requires.shown.3) in
     (S.long_done, u.0, S.tall, u.1)
 
-pub returns : goal.returns
-returns c =
-    let a = c.args in
-    let calls = production_by a.text.now a.heads.now a.roots.now in
-    let tables = place_by a.text.now a.tables.now in
-    let switches = place_by a.text.now a.switches.now in
-    let names = names_of a.text.now a.tables.now in
-    let e = symbol_plain a.text.now a.symbol a.t (omega arith) in
-    let h = subst (λ x. Apt names x a.s) e c.requires.shown.3 in
-    let u = joining a.symbol (omega arith) c.requires.ascending.3.most in
-    λ st S. rw e (shown_join calls tables switches S (join_asks S a.symbol u h).0 a.symbol u c.join.ensures)
+pub join-requires-in-Choice : goal.join-requires-in-Choice
+join-requires-in-Choice c = let a = c.args in
+    let S = c.requires.shown.1 in
+    let u = join_asks S Choice (subst (λ x. Apt (names_of a.names.text.now a.names.tables.now) (symbol_at a.names.text.now a.t x) a.s) c.in-Choice.is c.requires.shown.3) in
+    (S.long_done, u.0, S.tall, u.1)
+
+pub returns-in-Head : goal.returns-in-Head
+returns-in-Head c st S = let a = c.args in
+    rw c.in-Head.is
+    (shown_begin (production_by a.names.text.now a.names.heads.now a.names.roots.now) (place_by a.names.text.now a.names.tables.now) (place_by a.names.text.now a.names.switches.now) S (name_at a.names.text.now a.t.name) c.begin.ensures)
+
+pub returns-in-Leaf : goal.returns-in-Leaf
+returns-in-Leaf c st S = let a = c.args in
+    rw c.in-Leaf.is
+    (shown_stand (production_by a.names.text.now a.names.heads.now a.names.roots.now) (place_by a.names.text.now a.names.tables.now) (place_by a.names.text.now a.names.switches.now) S (leaf_at a.names.text.now a.t c.in-Leaf.leaf) c.stand.ensures)
+
+pub returns-in-Opens : goal.returns-in-Opens
+returns-in-Opens c st S = let a = c.args in
+    rw (c.in-Opens.is, ← (opener_token a.names.text.now a.t c.in-Opens.opener))
+    (shown_enter (production_by a.names.text.now a.names.heads.now a.names.roots.now) (place_by a.names.text.now a.names.tables.now) (place_by a.names.text.now a.names.switches.now) S c.enter.ensures)
+
+pub returns-in-Closes : goal.returns-in-Closes
+returns-in-Closes c st S = let a = c.args in
+    let calls = production_by a.names.text.now a.names.heads.now a.names.roots.now in
+    let h = subst (λ x. Apt (names_of a.names.text.now a.names.tables.now) (symbol_at a.names.text.now a.t x) a.s) c.in-Closes.is c.requires.shown.3 in
+    rw c.in-Closes.is
+    (shown_leave calls (place_by a.names.text.now a.names.tables.now) (place_by a.names.text.now a.names.switches.now) S h.0 h.1 (c.leave.ensures.grows calls) c.leave.ensures.ends)
+
+pub returns-in-And : goal.returns-in-And
+returns-in-And c st S = let a = c.args in
+    let u = unary_asks S And (subst (λ x. Apt (names_of a.names.text.now a.names.tables.now) (symbol_at a.names.text.now a.t x) a.s) c.in-And.is c.requires.shown.3) in
+    rw c.in-And.is
+    (shown_follow (production_by a.names.text.now a.names.heads.now a.names.roots.now) (place_by a.names.text.now a.names.tables.now) (place_by a.names.text.now a.names.switches.now) S u.0 And c.follow.ensures)
+
+pub returns-in-Not : goal.returns-in-Not
+returns-in-Not c st S = let a = c.args in
+    let u = unary_asks S Not (subst (λ x. Apt (names_of a.names.text.now a.names.tables.now) (symbol_at a.names.text.now a.t x) a.s) c.in-Not.is c.requires.shown.3) in
+    rw c.in-Not.is
+    (shown_follow (production_by a.names.text.now a.names.heads.now a.names.roots.now) (place_by a.names.text.now a.names.tables.now) (place_by a.names.text.now a.names.switches.now) S u.0 Not c.follow-in-Not.ensures)
+
+pub returns-in-After : goal.returns-in-After
+returns-in-After c st S = let a = c.args in
+    let q = c.in-After.suffix in
+    let u = unary_asks S (After q) (subst (λ x. Apt (names_of a.names.text.now a.names.tables.now) (symbol_at a.names.text.now a.t x) a.s) c.in-After.is c.requires.shown.3) in
+    rw c.in-After.is
+    (shown_follow (production_by a.names.text.now a.names.heads.now a.names.roots.now) (place_by a.names.text.now a.names.tables.now) (place_by a.names.text.now a.names.switches.now) S u.0 (After q) c.follow-in-After.ensures)
+
+pub returns-in-Sequence : goal.returns-in-Sequence
+returns-in-Sequence c st S = let a = c.args in
+    let u = join_asks S Sequence (subst (λ x. Apt (names_of a.names.text.now a.names.tables.now) (symbol_at a.names.text.now a.t x) a.s) c.in-Sequence.is c.requires.shown.3) in
+    rw c.in-Sequence.is
+    (shown_join (production_by a.names.text.now a.names.heads.now a.names.roots.now) (place_by a.names.text.now a.names.tables.now) (place_by a.names.text.now a.names.switches.now) S u.0 Sequence c.join.ensures)
+
+pub returns-in-Choice : goal.returns-in-Choice
+returns-in-Choice c st S = let a = c.args in
+    let u = join_asks S Choice (subst (λ x. Apt (names_of a.names.text.now a.names.tables.now) (symbol_at a.names.text.now a.t x) a.s) c.in-Choice.is c.requires.shown.3) in
+    rw c.in-Choice.is
+    (shown_join (production_by a.names.text.now a.names.heads.now a.names.roots.now) (place_by a.names.text.now a.names.tables.now) (place_by a.names.text.now a.names.switches.now) S u.0 Choice c.join-in-Choice.ensures)

@@ -1,21 +1,26 @@
--- `check` meets its promise: what `load` says, as two numbers. Assumes nothing.
-use mathlib.Core.Path.{ap, sym}
-use native.Mathlib.Omega.{arith}
-use Rattle.image.proofs.VerdictLaws.{says_good, says_refused, place_small}
-use Rattle.format.specs.Image.{read_image}
-use Rattle.image.specs.Meant.{verdict}
+-- `check` meets its promise: of a good image it says what `load` says, but its numbers. Assumes nothing.
+use Rattle.std.proofs.Common.{◌≡◌, ◌∙◌, ap, Result, Ok, Err, IsOkAnd, MatchResult}
+use Rattle.reader.specs.declared.refusal.Refusal.{Refusal}
+use Rattle.image.specs.declared.head.Head as code
+use Rattle.format.specs.Image.{Head, Checked, good, refused, read_image}
+use Rattle.image.specs.Meant.{Said, fine, faulty, answered, loaded, verdict, checked}
 use Rattle.image.proofs.walk.check.Goals as goal
 
-pub overflow_cast-result : goal.overflow_cast-result
-overflow_cast-result c = let a = c.args in
-    omega (
-      arith,
-      place_small a.image.now (λ i. omega (arith, c.type_inv.image i)) c.in-Refused.is
-          c.load-r.ensures.answer,
-    )
+-- Whether it is good, and no more.
+abbrev whether : Said Head → Said (Unit {0})
+whether (fine h) = fine tt
+whether (faulty number place) = faulty number place
 
-pub returns-in-Good : goal.returns-in-Good
-returns-in-Good c = says_good (read_image c.args.image.now) c.in-Good.is c.load-r.ensures.answer
+same : (k : Checked) {s : Said Head} → s ≡ answered k → whether s ≡ verdict k
+same (good g) e = ap whether e
+same (refused number place) e = ap whether e
 
-pub returns-in-Refused : goal.returns-in-Refused
-returns-in-Refused c = ap verdict (sym (says_refused (read_image c.args.image.now) c.in-Refused.is c.load-r.ensures.answer))
+says :
+    (l : Result code.Head Refusal) (r : Result (Unit {0}) Refusal) (P : code.Head → Unit {0} → Type 0)
+    → MatchResult l (λ h. IsOkAnd r (P h)) (λ f. r ≡ Err f) → checked r ≡ whether (loaded l)
+says (Ok h) (Ok _) P m = λ i. fine tt
+says (Ok h) (Err f) P m = elim m [ ]
+says (Err f) r P m = ap checked m
+
+pub returns : goal.returns
+returns c = says c.load.result c.map.result _ c.map.ensures.cases ∙ same (read_image c.args.image.now) c.load.ensures.answer

@@ -1,25 +1,10 @@
--- `fill_patterns` meets its promise. The loop's invariant: what is still to be read and put down gives what the whole gives.
--- The measure is what is left to read. Assumes nothing.
-use Prim.Native.Nat.{◌+◌}
-use native.Mathlib.Omega.{arith}
-use Rattle.image.proofs.FillLaws.{put_down, refused_at, all_down}
-use Rattle.image.specs.FilledLaws.{filling_starts}
+-- `fill_patterns` meets its promise: each pattern is read and put down, up to the first that cannot be. Assumes nothing.
+use Rattle.std.proofs.Common.{◌+◌, arith}
+use Rattle.image.proofs.FillLaws.{one_more}
 use Rattle.format.specs.Image.{bounded}
 use Rattle.image.proofs.walk.fill_patterns.Goals as goal
 
-pub loop-t-init : goal.loop-t-init
-loop-t-init c = let a = c.args in filling_starts (λ t. bounded a.image.now 7 0 a.nodes) 512 a.tables a.start a.code.now
-
-pub returns-in_default : goal.returns-in_default
-returns-in_default c = let a = c.args in
-    refused_at (λ t. bounded a.image.now 7 0 a.nodes) 512 a.tables c.loop-t.invariant (omega arith) c.bounded-r.result
-    c.in_default.not-Got c.bounded-r.ensures
-
 pub loop-t-preserved : goal.loop-t-preserved
-loop-t-preserved c = let a = c.args in
-    put_down (λ t. bounded a.image.now 7 0 a.nodes) 512 a.tables c.loop-t.invariant (512 + c.loop-t.t) (omega arith) (omega arith)
-    c.bounded-r.ensures c.in-Got.is
-
-pub returns : goal.returns
-returns c = let a = c.args in
-    all_down (λ t. bounded a.image.now 7 0 a.nodes) 512 a.tables c.loop-t.invariant (omega arith)
+loop-t-preserved c = let h = c.args.head in
+    one_more (λ image t. bounded image 7 0 h.nodes) 512 h.tables c.loop-t.invariant (512 + c.loop-t.t) (omega arith) (omega arith)
+    c.in_ok-code.ensures.reads

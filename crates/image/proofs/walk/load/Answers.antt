@@ -1,74 +1,34 @@
 -- `load` meets its promise: by how far the walk came. Assumes nothing.
-use mathlib.Core.Path.{◌≡◌, ap, sym, ◌∙◌}
-use native.Mathlib.Omega.{arith}
-use Rattle.image.proofs.HeadLaws.{found, few}
-use Rattle.image.proofs.WalkLaws.{promised, putting, too_long, no_head, no_patterns, no_nodes, left_over, all_good}
-use Rattle.format.specs.Image.{head_at}
-use Rattle.image.specs.Filled.{filling}
-use Rattle.reader.specs.Meant.{reading}
-use Rattle.image.specs.Meant.{header}
-use Prim.Native.Nat.{ℕ}
-use mathlib.Core.List.{List}
-use Rattle.image.specs.declared.walk.Head.{Head}
-use Rattle.image.specs.declared.walk.Header.{Header}
-use Rattle.image.specs.declared.walk.Header.TheVariants.{Found}
-use Rattle.image.specs.Word.{word_at}
+use Rattle.std.proofs.Common.{ℕ, List, get_or, ◌∙◌, arith, Fits, w8}
+use Rattle.grammar.specs.Sound.{Bytes}
+use Rattle.image.proofs.WalkLaws.{bad_head, bad_patterns, bad_nodes, trailing, good_image}
 use Rattle.image.proofs.walk.load.Goals as goal
 
--- The head that was found.
-head_is :
-    (image : List ℕ) {r : Header} {h : Head} → header r ≡ head_at image → r ≡ Found h
-    → found h.tables h.conditions h.nodes h.start h.next ≡ head_at image
-head_is image e is = sym (ap header is) ∙ e
+-- Numbers that fit a byte are bytes.
+bytes : (xs : List ℕ) → ((i : ℕ) → Fits w8 (get_or xs i 0)) → Bytes xs
+bytes xs f i = omega (arith, f i)
 
-pub returns-then-image-gt16384 : goal.returns-then-image-gt16384
-returns-then-image-gt16384 c = let a = c.args in
-    promised (λ i. omega (arith, c.type_inv.image i)) c.requires (too_long a.image.now a.code.now (omega arith))
+pub returns-in_err-head : goal.returns-in_err-head
+returns-in_err-head c =
+    bad_head (bytes _ c.type_inv.image) (omega arith) c.if-image-gt16384.false c.over-reader.ensures c.in_err-head.ensures c.from_residual.ensures.1
 
-pub returns-in-Refused : goal.returns-in-Refused
-returns-in-Refused c = let a = c.args in
-    promised (λ i. omega (arith, c.type_inv.image i)) c.requires
-    (no_head a.image.now a.code.now (omega arith) (sym (ap header c.in-Refused.is) ∙ c.head_of-r.ensures))
+pub returns-in_err-fill_patterns : goal.returns-in_err-fill_patterns
+returns-in_err-fill_patterns c =
+    bad_patterns (bytes _ c.type_inv.image) (omega arith) c.if-image-gt16384.false c.over-reader.ensures c.in_ok-head.ensures
+    c.in_err-fill_patterns.ensures c.from_residual-in_err-fill_patterns.ensures.1
 
-pub fill_patterns-r-requires : goal.fill_patterns-r-requires
-fill_patterns-r-requires c = omega (arith, few c.args.image.now (head_is c.args.image.now c.head_of-r.ensures c.in-Found.is))
+pub returns-in_err-fill_nodes : goal.returns-in_err-fill_nodes
+returns-in_err-fill_nodes c =
+    bad_nodes (bytes _ c.type_inv.image) (omega arith) c.if-image-gt16384.false c.over-reader.ensures c.in_ok-head.ensures
+    c.in_ok-fill_patterns.ensures c.in_err-fill_nodes.ensures c.from_residual-in_err-fill_nodes.ensures.1
 
-pub returns-in-Refused-r : goal.returns-in-Refused-r
-returns-in-Refused-r c = let a = c.args in
-    promised (λ i. omega (arith, c.type_inv.image i)) c.requires
-    (putting c.fill_patterns-r.ensures.array
-    (no_patterns a.image.now a.code.now (omega arith) (head_is c.args.image.now c.head_of-r.ensures c.in-Found.is)
-    (sym (ap reading c.in-Refused-r.is) ∙ c.fill_patterns-r.ensures.result)))
-
-pub fill_nodes-r-requires : goal.fill_nodes-r-requires
-fill_nodes-r-requires c = omega (arith, few c.args.image.now (head_is c.args.image.now c.head_of-r.ensures c.in-Found.is))
-
-pub returns-in-Refused-r-2 : goal.returns-in-Refused-r-2
-returns-in-Refused-r-2 c = let a = c.args in let h = c.in-Found.h in
-    promised (λ i. omega (arith, c.type_inv.image i)) c.requires
-    (putting (c.fill_nodes-r.ensures.array
-    ∙ ap (λ l. filling (word_at a.image.now h.tables h.conditions h.nodes) 0 0 h.nodes c.in-Got.n.next l)
-    c.fill_patterns-r.ensures.array)
-    (no_nodes a.image.now a.code.now (omega arith) (head_is c.args.image.now c.head_of-r.ensures c.in-Found.is)
-    (sym (ap reading c.in-Got.is) ∙ c.fill_patterns-r.ensures.result)
-    (sym (ap reading c.in-Refused-r-2.is) ∙ c.fill_nodes-r.ensures.result)))
-
-pub returns-then-nodes-image : goal.returns-then-nodes-image
-returns-then-nodes-image c = let a = c.args in let h = c.in-Found.h in
-    promised (λ i. omega (arith, c.type_inv.image i)) c.requires
-    (putting (c.fill_nodes-r.ensures.array
-    ∙ ap (λ l. filling (word_at a.image.now h.tables h.conditions h.nodes) 0 0 h.nodes c.in-Got.n.next l)
-    c.fill_patterns-r.ensures.array)
-    (left_over a.image.now a.code.now (omega arith) (head_is c.args.image.now c.head_of-r.ensures c.in-Found.is)
-    (sym (ap reading c.in-Got.is) ∙ c.fill_patterns-r.ensures.result)
-    (sym (ap reading c.in-Got-r.is) ∙ c.fill_nodes-r.ensures.result) (omega arith)))
+pub returns-then-stands-image : goal.returns-then-stands-image
+returns-then-stands-image c =
+    trailing (bytes _ c.type_inv.image) (omega arith) c.if-image-gt16384.false c.over-reader.ensures c.in_ok-head.ensures
+    c.in_ok-fill_patterns.ensures c.in_ok-fill_nodes.ensures
+    (c.at-then-stands-image.ensures.0, c.at-then-stands-image.ensures.1 ∙ c.stands-then-stands-image.ensures) (omega (arith, c.stands.ensures))
 
 pub returns : goal.returns
-returns c = let a = c.args in let h = c.in-Found.h in
-    promised (λ i. omega (arith, c.type_inv.image i)) c.requires
-    (putting (c.fill_nodes-r.ensures.array
-    ∙ ap (λ l. filling (word_at a.image.now h.tables h.conditions h.nodes) 0 0 h.nodes c.in-Got.n.next l)
-    c.fill_patterns-r.ensures.array)
-    (all_good a.image.now a.code.now (omega arith) (head_is c.args.image.now c.head_of-r.ensures c.in-Found.is)
-    (sym (ap reading c.in-Got.is) ∙ c.fill_patterns-r.ensures.result)
-    (sym (ap reading c.in-Got-r.is) ∙ c.fill_nodes-r.ensures.result) (omega arith)))
+returns c =
+    good_image (bytes _ c.type_inv.image) (omega arith) c.if-image-gt16384.false c.over-reader.ensures c.in_ok-head.ensures
+    c.in_ok-fill_patterns.ensures c.in_ok-fill_nodes.ensures (omega (arith, c.stands.ensures))

@@ -1,21 +1,11 @@
--- `truth_from` meets its promise: by the gap, and the byte behind it. Assumes nothing.
-use native.Mathlib.Omega.{arith}
-use Rattle.lexer.proofs.GapLaws.{gap_past, gap_open, past_onward, past_inside}
-use Rattle.lexer.proofs.SignLaws.{truth_open, truth_last, truth_not, truth_plain}
+-- `truth_from` meets its promise: by the byte behind the gap. Assumes nothing.
+use mathlib.Core.Path.{sym, ◌∙◌}
+use Rattle.lexer.proofs.SignLaws.{truth_not, truth_plain}
+use Rattle.lexer.proofs.NameLaws.{gap_ok}
 use Rattle.lexer.proofs.operator.truth_from.Goals as goal
 
-pub returns-then-text-i : goal.returns-then-text-i
-returns-then-text-i c = let g = c.gap_from.ensures in let e = c.in-At.is in
-    truth_last _ _ _ (gap_past g e) c.if-text-i.true (past_onward g e) (past_inside g e (omega arith))
+pub returns-then-is_at : goal.returns-then-is_at
+returns-then-is_at c = truth_not _ _ (rw (gap_ok c.gap_from.result c.in_ok-i.ensures.value) at c.gap_from.ensures) (sym c.is_at.ensures.here ∙ c.if-is_at.true)
 
-pub returns-then-text-i-eq33 : goal.returns-then-text-i-eq33
-returns-then-text-i-eq33 c = let g = c.gap_from.ensures in let e = c.in-At.is in
-    truth_not _ _ _ (gap_past g e) c.if-text-i.false c.if-text-i-eq33.true (past_onward g e)
-
-pub returns-in-Open : goal.returns-in-Open
-returns-in-Open c = let a = c.args in
-    truth_open a.text.now a.at (gap_open c.gap_from.ensures c.in-Open.is)
-
-pub returns-else-text-i-eq33 : goal.returns-else-text-i-eq33
-returns-else-text-i-eq33 c = let g = c.gap_from.ensures in let e = c.in-At.is in
-    truth_plain _ _ _ (gap_past g e) c.if-text-i.false c.if-text-i-eq33.false (past_onward g e)
+pub returns : goal.returns
+returns c = truth_plain _ _ (rw (gap_ok c.gap_from.result c.in_ok-i.ensures.value) at c.gap_from.ensures) (sym c.is_at.ensures.here ∙ c.if-is_at.false) c.requires

@@ -1,22 +1,26 @@
 -- `is_of` meets its promise. Assumes nothing.
-use borrow.Author.Tests.{eq-eqb, ne_eqb}
+use Rattle.std.proofs.Common.{◌≡◌, ℕ, refl, List, [], ◌∷◌, drop, Bool, rules}
+use Rattle.notation.specs.Tree.{Part}
+use Rattle.notation.specs.Token.{leaf}
+use Rattle.notation.specs.At.{parts_of, class_of}
+use Rattle.notation.specs.Uses.{switch_of}
+use Rattle.lexer.specs.declared.token.Token.{Token}
+use Rattle.lexer.specs.declared.token.Leaf.{Leaf}
+use Rattle.lexer.specs.Meant.{leaf_at, meant_by}
 use Rattle.naming.proofs.gather.is_of.Goals as goal
 
-pub returns-then-sort-eq0 : goal.returns-then-sort-eq0
-returns-then-sort-eq0 c text = rw (eq-eqb c.args.sort 0 c.if-sort-eq0.true) (c.said-s.ensures text).heads
+class_told : (ps : List Part) → switch_of (leaf (class_of ps)) ≡ []
+unfolding class_of
+class_told [] = refl
+class_told (p ∷ ps) = refl
 
-pub returns-then-sort-eq1 : goal.returns-then-sort-eq1
-returns-then-sort-eq1 c text = let sort = c.args.sort in
-    rw (ne_eqb sort 0 c.if-sort-eq0.false, eq-eqb sort 1 c.if-sort-eq1.true) (c.said-s.ensures text).defs
+-- What holds no expression and is no condition.
+no_switch : (text : List ℕ) (t : Token) (l : Leaf) → ((w : Bool) → l ≡ Leaf.If w → ⊥) → switch_of (leaf (leaf_at text t l)) ≡ []
+unfolding leaf_at
+no_switch text t (Leaf.If w) n = absurd (n w refl)
+no_switch text t Leaf.Class n = class_told (parts_of (drop t.start text))
+no_switch text t l n = refl
 
-pub returns-then-s-eq9 : goal.returns-then-s-eq9
-returns-then-s-eq9 c text = let sort = c.args.sort in
-    let r = c.said-s in
-    rw (ne_eqb sort 0 c.if-sort-eq0.false, ne_eqb sort 1 c.if-sort-eq1.false)
-    (rw (eq-eqb r.result 9 c.if-s-eq9.true) at (r.ensures text).switches)
-
-pub returns : goal.returns
-returns c text = let sort = c.args.sort in
-    let r = c.said-s in
-    rw (ne_eqb sort 0 c.if-sort-eq0.false, ne_eqb sort 1 c.if-sort-eq1.false)
-    (rw (ne_eqb r.result 9 c.if-s-eq9.false) at (r.ensures text).switches)
+pub returns-in_default : goal.returns-in_default
+unfolding meant_by
+returns-in_default c text = rw (c.in-Conditions.is, c.in_default.is) (no_switch text c.args.t c.in_default.field-0 (search rules))

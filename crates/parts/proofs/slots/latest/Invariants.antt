@@ -2,8 +2,5 @@
 use Rattle.parts.specs.SlotsLaws.{Sought}
 use Rattle.parts.proofs.slots.latest.Given as goal
 
-abbrev pub invariant-loop-from : goal.invariant-loop-from
-invariant-loop-from l = Sought l.table l.low l.slots l.held l.from
-
-abbrev pub decreases-loop-from : goal.decreases-loop-from
-decreases-loop-from l = l.from
+abbrev pub invariant-loop-number : goal.invariant-loop-number
+invariant-loop-number l = Sought l.table l.low l.slots l.held l.number

@@ -4,8 +4,8 @@ use Rattle.walker.specs.Walks.{to_go}
 use Rattle.patterns.proofs.BesideLaws.{Beside}
 use Rattle.patterns.proofs.alike.alike.Given as goal
 
-abbrev pub invariant-loop-a : goal.invariant-loop-a
-invariant-loop-a l = Beside l.text l.p l.q l.left l.right l.v l.w l.defs
+abbrev pub invariant-loop-symbol : goal.invariant-loop-symbol
+invariant-loop-symbol l = Beside l.text l.p l.q l.left l.right l.v l.w l.defs
 
-abbrev pub decreases-loop-a : goal.decreases-loop-a
-decreases-loop-a l = to_go l.text l.v
+abbrev pub decreases-loop-symbol : goal.decreases-loop-symbol
+decreases-loop-symbol l = to_go l.text l.v

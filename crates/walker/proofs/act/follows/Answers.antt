@@ -1,32 +1,28 @@
--- `follows` meets its promise: by the token's kind, and how tightly the latest that is open binds. Assumes nothing.
-use mathlib.Core.Path.{sym}
+-- `follows` meets its promise: by the token's kind, and whether it closes the latest that is open. Assumes nothing.
+use mathlib.Core.Path.{sym, ◌∙◌, ap, ap₂}
 use native.Mathlib.Omega.{arith}
-use Rattle.walker.proofs.ActLaws.{closes_end, suffix_taken, bad_breaks, pops, slash_taken, item_begins}
+use Rattle.walker.specs.Acts.{closed_by}
+use Rattle.walker.proofs.ActLaws.{left_bracket, pops, slash_taken, only_slash, item_begins}
 use Rattle.walker.proofs.act.follows.Goals as goal
 
-pub returns-then-kind-eq10 : goal.returns-then-kind-eq10
-returns-then-kind-eq10 c = let a = c.args in suffix_taken a.height a.stack.now (omega arith)
-
-pub returns-then-kind-ge11 : goal.returns-then-kind-ge11
-returns-then-kind-ge11 c = let a = c.args in bad_breaks a.height a.stack.now (omega arith)
-
-pub returns-then-closes_from-last : goal.returns-then-closes_from-last
-returns-then-closes_from-last c = let a = c.args in
-    pops a.height a.stack.now (omega arith) (omega (arith, c.closes_from.ensures, c.last_open-last.ensures))
+pub returns-then-closes : goal.returns-then-closes
+returns-then-closes c = let a = c.args in
+    rw c.last_open-last.ensures
+    (pops a.height a.stack.now c.requires.2 (ap₂ closed_by (sym c.reach_of-reach.ensures) (sym c.last_open-last.ensures) ∙ sym c.closes.ensures ∙ c.if-closes.true))
 
 pub ends-requires : goal.ends-requires
-ends-requires c = omega (arith, c.closes_from.ensures, closes_end c.args.kind (omega arith))
+ends-requires c = let r = c.reach_of-reach.ensures in
+    (left_bracket c.last_open-last.result (ap (λ r. closed_by r c.last_open-last.result) (sym c.in-End.is) ∙ sym c.closes.ensures ∙ c.if-closes.false), sym r ∙ c.in-End.is)
 
-pub returns-then-kind-lt4 : goal.returns-then-kind-lt4
-returns-then-kind-lt4 c = let a = c.args in
-    c.ends.ensures a.stack.now (sym c.last_open-last.ensures)
+pub returns-in-End : goal.returns-in-End
+returns-in-End c = c.ends.ensures c.args.stack.now (sym c.last_open-last.ensures)
 
-pub returns-then-kind-eq4 : goal.returns-then-kind-eq4
-returns-then-kind-eq4 c = let a = c.args in
-    slash_taken a.height a.stack.now (omega arith) (omega arith)
-    (omega (arith, c.closes_from.ensures, c.last_open-last.ensures))
+pub returns-in-Alternative : goal.returns-in-Alternative
+returns-in-Alternative c = let a = c.args in
+    slash_taken a.height a.stack.now (omega arith) (only_slash a.kind (sym c.reach_of-reach.ensures ∙ c.in-Alternative.is))
+    (ap₂ closed_by (sym c.reach_of-reach.ensures) (sym c.last_open-last.ensures) ∙ sym c.closes.ensures ∙ c.if-closes.false)
 
-pub returns : goal.returns
-returns c = let a = c.args in
-    item_begins a.height a.stack.now (omega arith) (omega arith) (omega arith)
-    (omega (arith, c.closes_from.ensures, c.last_open-last.ensures)) c.wants.result c.wants.ensures
+pub returns-in-Item : goal.returns-in-Item
+returns-in-Item c = let a = c.args in
+    item_begins a.height a.stack.now (omega arith) c.requires.2 (sym c.reach_of-reach.ensures ∙ c.in-Item.is)
+    (ap₂ closed_by (sym c.reach_of-reach.ensures) (sym c.last_open-last.ensures) ∙ sym c.closes.ensures ∙ c.if-closes.false) c.wants.result c.wants.ensures

@@ -2,24 +2,17 @@
 -- measure is what is left to go. Assumes nothing.
 use mathlib.Core.Path.{◌∙◌}
 use borrow.Author.Rules.{rules}
-use Rattle.walker.proofs.ReadLaws.{stands_first, stands_on, whole, stopped}
+use Rattle.walker.proofs.ReadLaws.{stands_first, stands_on, tells_whole, tells_stopped}
 use Rattle.walker.proofs.walk.read_whole.Goals as goal
 
-pub loop-stack-init : goal.loop-stack-init
-loop-stack-init c = (stands_first c.args.text.now _ c.over-w.result c.over-w.ensures, search rules)
+pub loop-walk-init : goal.loop-walk-init
+loop-walk-init c = (stands_first c.args.text.now _ c.over-w.result c.over-w.ensures, search rules)
 
-pub advance-s-requires : goal.advance-s-requires
-advance-s-requires c = let l = c.loop-stack.invariant in (l.1, c.requires, l.0.walks)
+pub loop-walk-preserved : goal.loop-walk-preserved
+loop-walk-preserved c = let l = c.loop-walk.invariant in let A = c.in-On.ensures in ((stands_on l.0 A).0, A.long ∙ l.1)
 
-pub returns-then-s-eq40 : goal.returns-then-s-eq40
-returns-then-s-eq40 c = whole c.loop-stack.invariant.0 c.advance-s.ensures c.if-s-eq40.true
+pub returns-in-Ended : goal.returns-in-Ended
+returns-in-Ended c = tells_whole c.loop-walk.invariant.0 (c.in-Ended.ensures).acted
 
-pub returns-then-s-eq41 : goal.returns-then-s-eq41
-returns-then-s-eq41 c = stopped c.loop-stack.invariant.0 c.advance-s.ensures c.if-s-eq41.true
-
-pub loop-stack-smaller : goal.loop-stack-smaller
-loop-stack-smaller c = (stands_on c.loop-stack.invariant.0 c.if-s-eq40.false c.if-s-eq41.false c.advance-s.ensures).1
-
-pub loop-stack-preserved : goal.loop-stack-preserved
-loop-stack-preserved c = let A = c.advance-s.ensures in let l = c.loop-stack.invariant in
-    ((stands_on l.0 c.if-s-eq40.false c.if-s-eq41.false A).0, A.long ∙ l.1)
+pub returns-in-Broken : goal.returns-in-Broken
+returns-in-Broken c = tells_stopped c.loop-walk.invariant.0 (c.in-Broken.ensures).acted

@@ -6,8 +6,8 @@ use Rattle.walker.specs.Walks.{to_go}
 use Rattle.walker.proofs.ReadLaws.{Stands}
 use Rattle.walker.proofs.walk.read_whole.Given as goal
 
-abbrev pub invariant-loop-stack : goal.invariant-loop-stack
-invariant-loop-stack l = Stands l.text l.stack l.w × (length l.stack ≡ 65536)
+abbrev pub invariant-loop-walk : goal.invariant-loop-walk
+invariant-loop-walk l = Stands l.text l.stack l.w × (length l.stack ≡ 65536)
 
-abbrev pub decreases-loop-stack : goal.decreases-loop-stack
-decreases-loop-stack l = to_go l.text l.w
+abbrev pub decreases-loop-walk : goal.decreases-loop-walk
+decreases-loop-walk l = to_go l.text l.w

@@ -1,32 +1,21 @@
--- `add_quoted` meets its promise. Assumes nothing.
-use Prim.Native.Nat.{◌+◌}
-use mathlib.Core.Path.{refl, ap, sym, ◌∙◌}
-use mathlib.Core.List.{[], ◌∷◌}
-use native.Mathlib.Omega.{arith}
-use lib.ListN.{length, drop, get_or}
+-- `add_quoted` meets its promise: by how many bytes there are. Assumes nothing.
+use Rattle.std.proofs.Common.{refl, ap, sym, ◌∙◌, [], ◌∷◌, arith, length, ◌≡◌}
+use Rattle.std.proofs.lemmas.List.{nil_from_length}
 use Rattle.grammar.specs.Expr.{Empty, Byte}
-use Rattle.notation.specs.At.{quoted_of}
+use Rattle.notation.specs.Lexer.{fresh, quote}
 use Rattle.notation.specs.Compile.{text_node}
-use Rattle.chars.specs.CharLaws.{quoted_row}
-use Rattle.chars.proofs.RowLaws.{quoted_is}
+use Rattle.chars.specs.Meant.{left}
 use Rattle.writer.specs.PutLaws.{adds_as}
-use Rattle.writer.proofs.RowLaws.{one_alone}
-use Rattle.writer.proofs.TextLaws.{text_none, text_more}
 use Rattle.writer.proofs.quoted.add_quoted.Goals as goal
 
-pub returns-then-n-eq0 : goal.returns-then-n-eq0
-returns-then-n-eq0 c = let a = c.args in
-    adds_as (ap (λ x. x ∷ []) (sym (text_none (quoted_of (drop a.start a.text.now)) (omega (arith, c.quoted_length-n.ensures)))))
-    (c.add_tag.ensures Empty refl)
+pub returns-in_default : goal.returns-in_default
+returns-in_default c =
+    adds_as (ap (λ s. text_node s ∷ []) (sym (sym c.quoted.ensures ∙ c.in_default.ensures.steps.0))) (c.add.ensures Empty refl)
 
 pub returns-then-n-eq1 : goal.returns-then-n-eq1
-returns-then-n-eq1 c = let a = c.args in
-    let e = quoted_is a.text.now a.start c.requires.0.0 in
-    let o = one_alone (quoted_row (get_or a.text.now a.start 0)) a.text.now (a.start + 1) c.requires.0.1
-    (omega (arith, ap length e, c.quoted_length-n.ensures)) c.char_at-c.ensures in
-    adds_as (ap (λ l. text_node l ∷ []) (sym (e ∙ o))) (c.add_one.ensures (Byte c.char_at-c.result.byte) refl)
-
-pub returns : goal.returns
-returns c = let a = c.args in
-    adds_as (ap (λ x. x ∷ []) (sym (text_more (quoted_of (drop a.start a.text.now)) (omega (arith, c.quoted_length-n.ensures)))))
-    c.add_text.ensures
+returns-then-n-eq1 c =
+    let b = c.in-Some.b in
+    let e = sym c.quoted.ensures ∙ c.in-Some.ensures.steps in
+    let r = c.next.new.self in
+    let none : left (λ mark. quote mark fresh) r.stop r.text.now r.at ≡ [] = nil_from_length _ (omega (arith, ap length e, c.quoted_length-n.ensures)) in
+    adds_as (ap (λ s. text_node s ∷ []) (sym (e ∙ ap (λ l. b ∷ l) none))) (c.add-then-n-eq1.ensures (Byte b) (rw c.from.ensures))

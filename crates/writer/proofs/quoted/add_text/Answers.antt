@@ -8,8 +8,8 @@ use Rattle.notation.specs.At.{quoted_of}
 use Rattle.writer.specs.PutLaws.{wrote_on, wrote_as, numbers_most, one_group, text_added}
 use Rattle.writer.proofs.quoted.add_text.Goals as goal
 
-pub put_two-at-requires : goal.put_two-at-requires
-put_two-at-requires c = omega (arith, numbers_most (4 ∷ c.args.n ∷ []))
+pub put_row-at-requires : goal.put_row-at-requires
+put_row-at-requires c = omega (arith, numbers_most (4 ∷ c.args.n ∷ []))
 
 pub put_quoted-end-requires : goal.put_quoted-end-requires
 put_quoted-end-requires c = (c.requires.0, omega (arith, one_group c.args.n (omega arith), c.requires.1))
@@ -17,4 +17,4 @@ put_quoted-end-requires c = (c.requires.0, omega (arith, one_group c.args.n (ome
 pub returns : goal.returns
 returns c = let a = c.args in
     text_added (quoted_of (drop a.start a.text.now)) (omega (arith, c.requires.1, c.requires.2)) c.requires.3
-    (wrote_on (wrote_as (ap (λ n. numbers (4 ∷ n ∷ [])) c.requires.1) c.put_two-at.ensures) c.put_quoted-end.ensures)
+    (wrote_on (wrote_as (ap (λ n. numbers (4 ∷ n ∷ [])) c.requires.1) c.put_row-at.ensures) c.put_quoted-end.ensures)

@@ -1,37 +1,30 @@
 -- `ended` meets its promise. Assumes nothing.
-use Prim.Native.Nat.{◌-◌, ◌*◌}
-use mathlib.Core.Path.{ap, sym, ◌∙◌, subst}
+use Prim.Native.Nat.{ℕ, ◌-◌, ◌*◌}
+use mathlib.Core.Path.{◌≡◌, ap, ap₂, sym, ◌∙◌}
 use mathlib.Core.List.{◌++◌}
 use native.Mathlib.Omega.{arith}
 use lib.ListN.{length, take, replicate}
-use Rattle.yarnspire.specs.Ended.{answer_for, kept_of, Kept}
-use Rattle.yarnspire.specs.EndLaws.{filled_long, filled_zeros}
+use Rattle.yarnspire.specs.Ended.{answer_for, kept_of}
 use Rattle.yarnspire.proofs.run.ended.Goals as goal
-
-pub overflow_mul-kept : goal.overflow_mul-kept
-overflow_mul-kept c = let k = subst (Kept (length c.args.slots.now)) (sym c.opened-outcome.ensures ∙ c.in-Passed.is) c.requires in omega (arith, k.0)
-
-pub fill-requires : goal.fill-requires
-fill-requires c = let k = subst (Kept (length c.args.slots.now)) (sym c.opened-outcome.ensures ∙ c.in-Passed.is) c.requires in (k.1, omega (arith, k.0))
-
-pub zero-requires : goal.zero-requires
-zero-requires c = let k = subst (Kept (length c.args.slots.now)) (sym c.opened-outcome.ensures ∙ c.in-Passed.is) c.requires in omega (arith, k.1, filled_long (c.in-Passed.held * 3) c.args.store.now c.args.slots.now (omega (arith, k.0)) k.1 c.fill.ensures)
 
 pub returns-in-Passed : goal.returns-in-Passed
 returns-in-Passed c = let a = c.args in let n = c.in-Passed.held * 3 in
-    let k = subst (Kept (length a.slots.now)) (sym c.opened-outcome.ensures ∙ c.in-Passed.is) c.requires in
-    let e = sym c.in-Passed.is ∙ c.opened-outcome.ensures in (
+    let e = sym c.in-Passed.is ∙ c.opened.ensures in
+    let long : length c.split_at_mut-front.result.1.now ≡ length a.slots.now - n = omega (arith, c.split_at_mut-front.ensures.back_len) in (
       ap answer_for e,
-      c.zero.ensures ∙ filled_zeros n a.store.now a.slots.now (omega (arith, k.0)) k.1 c.fill.ensures
+      ap₂ (λ l m. l ++ m) c.copy_from_slice.ensures.after (c.fill.ensures.after (λ y h. h)) ∙ ap (λ k. take n a.store.now ++ replicate k 0) long
           ∙ ap (λ o. take (kept_of o) a.store.now ++ replicate (length a.slots.now - kept_of o) 0) e,
     )
 
+none_kept : (n : ℕ) → replicate {A = ℕ} n 0 ≡ replicate {A = ℕ} (n - 0) 0
+none_kept n = let z : n ≡ n - 0 = omega arith in ap (λ k. replicate {A = ℕ} k 0) z
+
 pub returns-in-Failed : goal.returns-in-Failed
 returns-in-Failed c = let a = c.args in
-    let e = sym c.in-Failed.is ∙ c.opened-outcome.ensures in
-    (ap answer_for e, c.zero-in-Failed.ensures ∙ ap (λ o. take (kept_of o) a.store.now ++ replicate (length a.slots.now - kept_of o) 0) e)
+    let e = sym c.in-Failed.is ∙ c.opened.ensures in
+    (ap answer_for e, c.fill-in-Failed.ensures.after (λ y h. h) ∙ none_kept (length a.slots.now) ∙ ap (λ o. take (kept_of o) a.store.now ++ replicate (length a.slots.now - kept_of o) 0) e)
 
 pub returns-in-Refused : goal.returns-in-Refused
 returns-in-Refused c = let a = c.args in
-    let e = sym c.in-Refused.is ∙ c.opened-outcome.ensures in
-    (ap answer_for e, c.zero-in-Refused.ensures ∙ ap (λ o. take (kept_of o) a.store.now ++ replicate (length a.slots.now - kept_of o) 0) e)
+    let e = sym c.in-Refused.is ∙ c.opened.ensures in
+    (ap answer_for e, c.fill-in-Refused.ensures.after (λ y h. h) ∙ none_kept (length a.slots.now) ∙ ap (λ o. take (kept_of o) a.store.now ++ replicate (length a.slots.now - kept_of o) 0) e)

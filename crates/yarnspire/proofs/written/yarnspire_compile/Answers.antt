@@ -1,14 +1,13 @@
 -- `yarnspire_compile` meets its promise. Assumes nothing.
-use mathlib.Core.Path.{ap, sym}
-use Rattle.yarnspire.specs.Compile.{number_of, length_of, at_of}
+use Rattle.std.proofs.Common.{refl, arith}
+use Rattle.yarnspire.specs.CompileLaws.{place_small}
 use Rattle.yarnspire.proofs.written.yarnspire_compile.Goals as goal
 
-pub returns-in-Written : goal.returns-in-Written
-returns-in-Written c = let r = c.compile-compiled in
-    let e = c.in-Written.is in
-    record { compiled = r.result; compiles = r.ensures; number_is = ap number_of (sym e); length_is = ap length_of (sym e); at_is = ap at_of (sym e) }
+pub returns-in-Ok : goal.returns-in-Ok
+returns-in-Ok c = record { compiled = _; compiles = c.in-Ok.ensures; number_is = refl; length_is = refl; at_is = refl }
 
-pub returns-in-Refused : goal.returns-in-Refused
-returns-in-Refused c = let r = c.compile-compiled in
-    let e = c.in-Refused.is in
-    record { compiled = r.result; compiles = r.ensures; number_is = ap number_of (sym e); length_is = ap length_of (sym e); at_is = ap at_of (sym e) }
+pub overflow_cast-at : goal.overflow_cast-at
+overflow_cast-at c = omega (arith, place_small c.args.text.now c.args.image.now c.compile.new.image c.in-Err.ensures.is)
+
+pub returns-in-Err : goal.returns-in-Err
+returns-in-Err c = record { compiled = _; compiles = c.in-Err.ensures; number_is = c.number.ensures; length_is = refl; at_is = refl }

@@ -1,2 +1,0 @@
--- Laws that the proofs of several functions cite.
-pub mod OutcomeLaws

@@ -1,8 +1,0 @@
--- `depth_of` meets its promise. Assumes nothing.
-use mathlib.Core.Path.{refl}
-use Rattle.parts.specs.Packed.{depth_of}
-use Rattle.parts.proofs.outcome.depth_of.Goals as goal
-
-pub returns : goal.returns
-unfolding depth_of
-returns c = refl

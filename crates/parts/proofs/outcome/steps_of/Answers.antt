@@ -1,8 +1,0 @@
--- `steps_of` meets its promise. Assumes nothing.
-use mathlib.Core.Path.{refl}
-use Rattle.parts.specs.Packed.{steps_of}
-use Rattle.parts.proofs.outcome.steps_of.Goals as goal
-
-pub returns : goal.returns
-unfolding steps_of
-returns c = refl
