@@ -1,10 +1,10 @@
 -- Names that were gathered, as the slice of their places.
 use Prim.Native.Nat.{ℕ, ◌≤◌, ◌<◌}
-use mathlib.Core.Path.{◌≡◌, ap, sym, ◌∙◌}
+use mathlib.Core.Path.{◌≡◌, ap, ◌∙◌}
 use mathlib.Core.List.{List, [], map}
 use native.Mathlib.Omega.{arith}
 use lib.ListN.{length, take}
-use lib.Seq.{take-length, length-take-le}
+use lib.Seq.{take-length}
 use Rattle.notation.specs.Tree.{Name}
 use Rattle.notation.specs.Token.{Token}
 use Rattle.notation.specs.At.{name_at}
@@ -21,14 +21,6 @@ pub enough : (sort : Sort) (text : List ℕ) → length text ≤ 65535 → lengt
 enough sort text h = omega (arith, gathered_bound sort text)
 
 module _ {f : Token → List Name} {text at : List ℕ} {r : Gathered} (G : Gathers f text at r) where
-  -- The places that count are there, in an array that was long enough.
-  module _ {k : ℕ} (few : length (gathered f [] (lexemes text)) < k) (long : length at ≡ k) where
-    pub gathers_within : r.count ≤ length at
-    gathers_within = omega (arith, G.many)
-
-    pub gathers_count : r.count ≡ length (take r.count at)
-    gathers_count = sym (length-take-le r.count at gathers_within)
-
   pub gathers_listed : names_of text (take r.count at) ≡ gathered f [] (lexemes text)
   gathers_listed = ap (map (name_at text)) (take-length (take r.count at)) ∙ G.listed
 

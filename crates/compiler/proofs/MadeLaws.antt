@@ -27,27 +27,11 @@ use Rattle.compiler.proofs.RuledLaws.{over_image, held}
 use Rattle.compiler.proofs.FewLaws.{few_productions}
 use Rattle.compiler.proofs.EmitLaws.{up_to}
 use Rattle.compiler.proofs.AnswerLaws.{over_said, image_short, image_lent}
-use Rattle.compiler.proofs.PartLaws.{front_within, front_count}
 use Rattle.compiler.proofs.NumberLaws.{start_small, patterns_small}
-
--- What was put to the front of a buffer is there.
-module _ {was now bytes : List ℕ} {next : ℕ} (w : Wrote was 0 now next bytes) where
-  place : next ≡ length bytes
-  place = omega (arith, w.place)
-
-  pub head_within : next ≤ length now
-  head_within = front_within now w.front place
-
-  pub head_count : next ≡ length (take next now)
-  head_count = front_count now w.front place
 
 module _ {text out patterns ends : List ℕ} {switches start : ℕ} {made : Made} (m : Makes text switches start out patterns ends made) where
   abbrev grammar : Grammar
   grammar = compile m.productions
-
-  -- The nodes are there.
-  pub nodes_count : made.length ≡ length (take made.length out)
-  nodes_count = front_count out m.emits.nodes_written m.emits.length-written
 
   -- The heading is small.
   pub head_few : length patterns ≤ 8

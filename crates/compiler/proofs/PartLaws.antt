@@ -3,7 +3,7 @@ use Prim.Native.Nat.{ℕ, ◌≤◌}
 use mathlib.Core.Path.{◌≡◌, ap, sym, ◌∙◌}
 use mathlib.Core.List.{List, ◌++◌}
 use native.Mathlib.Omega.{arith}
-use lib.ListN.{length, take, drop, length-append, length-take}
+use lib.ListN.{length, take, drop, length-append}
 use lib.Seq.{take_at}
 use Rattle.notation.specs.Tree.{Production}
 use Rattle.notation.specs.Text.{ReadsAs}
@@ -20,14 +20,6 @@ module _ (part whole : List ℕ) {n : ℕ} (long : length part ≡ n) where
 
   pub part_count : n ≡ length (take n (part ++ drop n whole))
   part_count = sym (ap length part_front ∙ long)
-
--- The front of a list that is known.
-module _ (whole : List ℕ) {front : List ℕ} {n : ℕ} (is : take n whole ≡ front) (long : n ≡ length front) where
-  pub front_count : n ≡ length (take n whole)
-  front_count = long ∙ sym (ap length is)
-
-  pub front_within : n ≤ length whole
-  front_within = omega (arith, front_count, length-take n whole)
 
 -- The nodes of productions, so.
 pub numbered :

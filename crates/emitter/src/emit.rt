@@ -4,7 +4,7 @@ ghost use Rattle.notation.specs.Tree.{Production};
 ghost use Rattle.notation.specs.Text.{ReadsAs};
 ghost use Rattle.emitter.specs.Emitted.{Ready, Emits};
 
-use crate::state::{Opened, State, end_production};
+use crate::state::{Opened, Stacks, State, end_production};
 use crate::step::take_symbol;
 use lexer::token::Opener;
 use walker::act::Open;
@@ -19,12 +19,14 @@ pub fn emit(names: Names, out: &mut [u8], patterns: &mut [u16], ends: &mut [u16]
     ensures { (ps : List Production) → ReadsAs names.entry.text.now ps → Emits ps out.new patterns.new ends.new result }
 {
     let mut stack = [Open::Bracket; 65536];
-    let mut done = [0u16; 512];
-    let mut opened = [Opened {
-        opener: Opener::Local,
-        name: 0,
-        brings: false,
-    }; 512];
+    let mut stacks = Stacks {
+        done: [0; 512],
+        opened: [Opened {
+            opener: Opener::Local,
+            name: 0,
+            brings: false,
+        }; 512],
+    };
     // No def of any table has begun.
     patterns.fill(512);
     let mut s = State {
@@ -48,17 +50,7 @@ pub fn emit(names: Names, out: &mut [u8], patterns: &mut [u16], ends: &mut [u16]
             end_production(ends, s.made, s.ended);
             return s.made;
         };
-        s = take_symbol(
-            names,
-            out,
-            patterns,
-            ends,
-            &mut done,
-            &mut opened,
-            s,
-            symbol,
-            token,
-        );
+        s = take_symbol(names, out, patterns, ends, &mut stacks, s, symbol, token);
         w = walk;
     }
 }

@@ -13,6 +13,13 @@ pub struct Opened {
     pub brings: bool,
 }
 
+// The two stacks of a walk: the nodes of the expressions that are complete, and the operators in angle brackets that are open.
+#[derive(Drop)]
+pub(crate) struct Stacks {
+    pub(crate) done: [u16; 512],
+    pub(crate) opened: [Opened; 512],
+}
+
 // made: the nodes so far. complete: how many expressions are complete. openers: how many operators in angle brackets are open. ended: how many productions have ended.
 #[derive(Clone, Copy)]
 pub struct State {

@@ -16,7 +16,7 @@ ghost use Rattle.emitter.specs.Stage.{Stage};
 ghost use Rattle.emitter.specs.Shown.{opened_at, opener_in, brought_in, Tabled, Ends, Enters, Grows, Starts, Shown, Brought, Apt, after_by};
 
 use crate::pattern::{begin_operator, end_pattern};
-use crate::state::{Opened, State, end_production, settle};
+use crate::state::{Opened, Stacks, State, end_production, settle};
 use lexer::token::{Leaf, Opener, Token};
 use walker::walk::Symbol;
 use writer::leaf::add_leaf;
@@ -129,25 +129,24 @@ pub(crate) fn take_symbol(
     out: &mut [u8],
     patterns: &mut [u16],
     ends: &mut [u16],
-    done: &mut [u16; 512],
-    opened: &mut [Opened; 512],
+    stacks: &mut Stacks,
     s: State,
     symbol: Symbol,
     t: Token,
 ) -> State
     requires ascending { Ascending (names_of names.text.now names.heads.now) × Numbered names.text.now names.tables.now names.switches.now × Taken names.text.now t symbol }
-    requires shown { (st : Stage) × Shown names.text.now (names_of names.text.now names.tables.now) out.old patterns.old ends.old done.old opened.old s st × Brought (names_of names.text.now names.tables.now) st.brought × Apt (names_of names.text.now names.tables.now) (symbol_at names.text.now t symbol) s }
-    ensures { (st : Stage) → Shown names.entry.text.now (names_of names.entry.text.now names.entry.tables.now) out.old patterns.old ends.old done.old opened.old s st → Shown names.entry.text.now (names_of names.entry.text.now names.entry.tables.now) out.new patterns.new ends.new done.new opened.new result (after_by names.entry.text.now names.entry.heads.now names.entry.roots.now names.entry.tables.now names.entry.switches.now (symbol_at names.entry.text.now t symbol) st) }
+    requires shown { (st : Stage) × Shown names.text.now (names_of names.text.now names.tables.now) out.old patterns.old ends.old stacks.old.done stacks.old.opened s st × Brought (names_of names.text.now names.tables.now) st.brought × Apt (names_of names.text.now names.tables.now) (symbol_at names.text.now t symbol) s }
+    ensures { (st : Stage) → Shown names.entry.text.now (names_of names.entry.text.now names.entry.tables.now) out.old patterns.old ends.old stacks.old.done stacks.old.opened s st → Shown names.entry.text.now (names_of names.entry.text.now names.entry.tables.now) out.new patterns.new ends.new stacks.new.done stacks.new.opened result (after_by names.entry.text.now names.entry.heads.now names.entry.roots.now names.entry.tables.now names.entry.switches.now (symbol_at names.entry.text.now t symbol) st) }
 {
     match symbol {
         Symbol::Head => begin(ends, s),
-        Symbol::Leaf(leaf) => stand(names, out, done, s, leaf, t),
-        Symbol::Opens(opener) => enter(names, patterns, opened, s, opener, t.name),
-        Symbol::Closes => leave(names, out, patterns, done, opened, s),
-        Symbol::And => follow(out, done, s, Unary::And),
-        Symbol::Not => follow(out, done, s, Unary::Not),
-        Symbol::After(suffix) => follow(out, done, s, Unary::After(suffix)),
-        Symbol::Sequence => join(out, done, s, Binary::Sequence),
-        Symbol::Choice => join(out, done, s, Binary::Choice),
+        Symbol::Leaf(leaf) => stand(names, out, &mut stacks.done, s, leaf, t),
+        Symbol::Opens(opener) => enter(names, patterns, &mut stacks.opened, s, opener, t.name),
+        Symbol::Closes => leave(names, out, patterns, &mut stacks.done, &stacks.opened, s),
+        Symbol::And => follow(out, &mut stacks.done, s, Unary::And),
+        Symbol::Not => follow(out, &mut stacks.done, s, Unary::Not),
+        Symbol::After(suffix) => follow(out, &mut stacks.done, s, Unary::After(suffix)),
+        Symbol::Sequence => join(out, &mut stacks.done, s, Binary::Sequence),
+        Symbol::Choice => join(out, &mut stacks.done, s, Binary::Choice),
     }
 }

@@ -9,8 +9,8 @@ use Rattle.notation.specs.Tree.{Name, Part}
 use Rattle.notation.specs.At.{class_of}
 use Rattle.notation.specs.Compile.{leaf_count, part_node, choices, leaf_nodes}
 use Rattle.writer.specs.declared.node.Made.{Made}
-use Rattle.writer.specs.Put.{Room, Adds}
-use Rattle.writer.specs.PutLaws.{adds_none, adds_on, adds_as}
+use Rattle.writer.specs.Put.{Adds}
+use Rattle.writer.specs.PutLaws.{adds_on, adds_as}
 
 -- ## A class by the number of its parts
 
@@ -33,12 +33,6 @@ pub record Choosing (was : List ℕ) (m : Made) (k n : ℕ) (now : List ℕ) (r 
   pub adds : Adds was m now r new
   pub rest : new ++ choices k left (r.nodes - 1) r.nodes ≡ choices k n (k + n) (suc (k + n))
   pub many : length new + left ≡ n
-
-pub choosing_none : (was : List ℕ) (m : Made) (k n : ℕ) → k + n + 1 ≡ m.nodes → Room was m n → Choosing was m k n was m n
-choosing_none was m k n e r =
-    let f : m.nodes ≡ suc (k + n) = omega arith in
-    let g : suc (k + n) - 1 ≡ k + n = omega arith in
-    record { new = []; adds = adds_none r; rest = rw (f, g); many = omega arith }
 
 module _ {was mid : List ℕ} {m r : Made} {k n left : ℕ} (h : Choosing was m k n mid r left) where
   pub choosing_more : {now : List ℕ} {s : Made} → 0 < left → Adds mid r now s (Choice (k + (left - 1)) (r.nodes - 1) ∷ []) → Choosing was m k n now s (left - 1)

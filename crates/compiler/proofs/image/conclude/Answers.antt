@@ -1,20 +1,11 @@
 -- `conclude` meets its promise. Assumes nothing.
 use native.Mathlib.Omega.{arith}
 use Rattle.compiler.proofs.AnswerLaws.{refuses}
-use Rattle.compiler.proofs.MadeLaws.{head_few, head_small, head_within, head_count, nodes_count, said_over, whole_short, whole_lent}
+use Rattle.compiler.proofs.MadeLaws.{head_few, head_small, said_over, whole_short, whole_lent}
 use Rattle.compiler.proofs.image.conclude.Goals as goal
 
 pub write_head-base-requires : goal.write_head-base-requires
 write_head-base-requires c = let m = c.requires.1 in (omega arith, head_few m, head_small m)
-
-pub slice_bounds-head-end : goal.slice_bounds-head-end
-slice_bounds-head-end c = head_within c.write_head-base.ensures
-
-pub slice_bounds-lend-end : goal.slice_bounds-lend-end
-slice_bounds-lend-end c = head_count c.write_head-base.ensures
-
-pub slice_bounds-lend-end-in-None : goal.slice_bounds-lend-end-in-None
-slice_bounds-lend-end-in-None c = nodes_count c.requires.1
 
 pub lend-requires : goal.lend-requires
 lend-requires c = whole_short c.requires.1 c.write_head-base.ensures c.over_image-over.ensures c.requires.0 c.in-None.is

@@ -2,7 +2,7 @@
 use mathlib.Core.Path.{◌∙◌}
 use native.Mathlib.Omega.{arith}
 use Rattle.naming.specs.GatheredLaws.{heads_gathered, tables_gathered, conditions_gathered}
-use Rattle.compiler.proofs.ListedLaws.{gathers_within, gathers_count, gathers_listed}
+use Rattle.compiler.proofs.ListedLaws.{gathers_listed}
 use Rattle.compiler.proofs.RuledLaws.{held}
 use Rattle.compiler.proofs.FewLaws.{few_heads, few_defs, few_switches}
 use Rattle.compiler.proofs.image.write.Goals as goal
@@ -15,24 +15,6 @@ gather-defined-requires c = (c.requires.0, omega (arith, few_defs c.requires.1.1
 
 pub gather-asked-requires : goal.gather-asked-requires
 gather-asked-requires c = (c.requires.0, omega (arith, few_switches c.requires.1.1))
-
-pub slice_bounds-heads-end : goal.slice_bounds-heads-end
-slice_bounds-heads-end c = let g = c.gather-named in gathers_within g.ensures (few_heads c.requires.1.1) g.auto.at
-
-pub slice_bounds-build-end : goal.slice_bounds-build-end
-slice_bounds-build-end c = let g = c.gather-named in gathers_count g.ensures (few_heads c.requires.1.1) g.auto.at
-
-pub slice_bounds-tables-end : goal.slice_bounds-tables-end
-slice_bounds-tables-end c = let g = c.gather-defined in gathers_within g.ensures (few_defs c.requires.1.1) g.auto.at
-
-pub slice_bounds-build-end-2 : goal.slice_bounds-build-end-2
-slice_bounds-build-end-2 c = let g = c.gather-defined in gathers_count g.ensures (few_defs c.requires.1.1) g.auto.at
-
-pub slice_bounds-switches-end : goal.slice_bounds-switches-end
-slice_bounds-switches-end c = let g = c.gather-asked in gathers_within g.ensures (few_switches c.requires.1.1) g.auto.at
-
-pub slice_bounds-build-end-3 : goal.slice_bounds-build-end-3
-slice_bounds-build-end-3 c = let g = c.gather-asked in gathers_count g.ensures (few_switches c.requires.1.1) g.auto.at
 
 pub build-requires : goal.build-requires
 build-requires c = let p = c.requires.1.1 in (

@@ -6,19 +6,12 @@ use Rattle.notation.specs.Lexer.{lexemes}
 use Rattle.naming.specs.Found.{found}
 use Rattle.naming.specs.GatheredLaws.{gathered_ascending}
 use Rattle.naming.specs.UndefinedLaws.{undefined_gathered}
-use Rattle.compiler.proofs.ListedLaws.{enough, gathers_within, gathers_count, gathers_listed, gathers_ascending}
+use Rattle.compiler.proofs.ListedLaws.{enough, gathers_listed, gathers_ascending}
 use Rattle.naming.specs.declared.gather.Sort.TheVariants.{Tables}
 use Rattle.compiler.proofs.judge.lacking.Goals as goal
 
 pub gather-g-requires : goal.gather-g-requires
 gather-g-requires c = (c.requires.0, enough Tables c.args.text.now c.requires.0)
-
-pub slice_bounds-tables-end : goal.slice_bounds-tables-end
-slice_bounds-tables-end c = gathers_within c.gather-g.ensures (enough Tables c.args.text.now c.requires.0) c.gather-g.auto.at
-
-pub slice_bounds-first_undefined-end : goal.slice_bounds-first_undefined-end
-slice_bounds-first_undefined-end c = let g = c.gather-g in
-    gathers_count g.ensures (enough Tables c.args.text.now c.requires.0) g.auto.at
 
 pub first_undefined-requires : goal.first_undefined-requires
 first_undefined-requires c = (rw c.requires.1 (gathered_ascending head_of (lexemes c.args.text.now)), gathers_ascending c.gather-g.ensures)

@@ -23,12 +23,6 @@ returns-then-patterns-i-ne512 c = let a = c.args in
     let ts = names_of a.names.text.now a.names.tables.now in
     begins_old a.patterns.now ts t c.requires.2 (subst (λ i. get_or a.patterns.now i 0 ≡ 512 → ⊥) c.table-i.ensures.0 c.if-patterns-i-ne512.true)
 
-pub bounds-patterns-i-2 : goal.bounds-patterns-i-2
-bounds-patterns-i-2 c = let a = c.args in
-    let t = name_at a.names.text.now a.p in
-    let ts = names_of a.names.text.now a.names.tables.now in
-    omega (arith, c.requires.1, c.table-i.ensures.0, place_below t ts c.requires.2, names_length a.names.text.now a.names.tables.now (length a.names.tables.now) (omega arith))
-
 pub returns : goal.returns
 returns c = let a = c.args in
     let t = name_at a.names.text.now a.p in

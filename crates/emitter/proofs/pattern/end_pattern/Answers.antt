@@ -1,5 +1,5 @@
 -- `end_pattern` meets its promise. Assumes nothing.
-use mathlib.Core.Path.{refl, sym, subst}
+use mathlib.Core.Path.{sym, subst}
 use native.Mathlib.Omega.{arith}
 use lib.ListN.{length, set, length-set}
 use Rattle.notation.specs.At.{name_at}
@@ -27,6 +27,3 @@ returns-then-opened c = let a = c.args in
           (rw (known_node a.node c.requires.3) at (tells_put a.patterns.now ts t f T c.requires.0 a.node)));
       long = simp length-set;
     }
-
-pub returns-else-opened : goal.returns-else-opened
-returns-else-opened c = record { tells = λ f T. rw c.if-opened.false T; long = refl }

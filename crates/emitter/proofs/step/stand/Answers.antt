@@ -2,7 +2,7 @@
 use native.Mathlib.Omega.{arith}
 use Rattle.lexer.specs.Meant.{leaf_at}
 use Rattle.writer.specs.Named.{place_by, production_by}
-use Rattle.emitter.specs.ShownLaws.{grows_settled, leaf_length, leaf_some}
+use Rattle.emitter.specs.ShownLaws.{leaf_length, leaf_some}
 use Rattle.emitter.proofs.step.stand.Goals as goal
 
 pub settle-requires : goal.settle-requires
@@ -13,6 +13,3 @@ settle-requires c = let a = c.args in
     let f = c.requires.room.1.few in
     let z = leaf_some l in
     (c.requires.room.2, omega (arith, c.requires.room.3), omega arith, omega arith)
-
-pub returns : goal.returns
-returns c = grows_settled c.add_leaf-m.ensures c.settle.ensures

@@ -1,87 +1,48 @@
 -- `take_symbol` meets its promise. Assumes nothing.
-use Rattle.std.proofs.Common.{◌-◌, get_or, subst, sym, arith}
+use Rattle.std.proofs.Common.{◌-◌, get_or, subst, sym}
 use Rattle.notation.specs.At.{name_at}
-use Rattle.notation.specs.Compile.{leaf_count}
 use Rattle.lexer.specs.Meant.{leaf_at}
-use Rattle.walker.specs.Walks.{symbol_at, Taken}
+use Rattle.walker.specs.Walks.{symbol_at}
 use Rattle.writer.specs.declared.operator.Unary.TheVariants.{And, Not, After}
 use Rattle.writer.specs.declared.operator.Binary.TheVariants.{Sequence, Choice}
 use Rattle.writer.specs.Named.{names_of, place_by, production_by}
 use Rattle.writer.specs.Operator.{opener_token}
 use Rattle.emitter.specs.Shown.{Tabled, Apt}
-use Rattle.emitter.specs.StepLaws.{room_for, shown_stand, shown_follow, shown_leave, shown_join, shown_enter, shown_begin}
+use Rattle.emitter.specs.StepLaws.{shown_stand, shown_follow, shown_leave, shown_join, shown_enter, shown_begin}
 use Rattle.emitter.proofs.AptLaws.{tells_length, latest_tabled, unary_asks, join_asks}
 use Rattle.emitter.proofs.step.take_symbol.Goals as goal
 
-pub begin-requires : goal.begin-requires
-begin-requires c = let a = c.args in
-    let S = c.requires.shown.1 in
-    let h = subst (λ x. Apt (names_of a.names.text.now a.names.tables.now) (symbol_at a.names.text.now a.t x) a.s) c.in-Head.is c.requires.shown.3 in
-    (omega (arith, S.long_ends), omega (arith, S.holds.low))
+pub enter-requires-clause-ascending : goal.enter-requires-clause-ascending
+enter-requires-clause-ascending c = let a = c.args in
+    let h = subst (λ x. Apt (names_of a.names.text.now a.names.tables.now) (symbol_at a.names.text.now a.t x) a.s) c.in-Opens.is c.requires.shown.3 in (
+      c.requires.ascending.1.tables_listed,
+      tells_length a.patterns.now a.names.text.now a.names.tables.now c.requires.shown.0.known c.requires.shown.1.known_shown,
+      subst (Tabled (names_of a.names.text.now a.names.tables.now)) (sym (opener_token a.names.text.now a.t c.in-Opens.opener)) h.0,
+    )
 
-pub stand-requires : goal.stand-requires
-stand-requires c = let a = c.args in
-    let S = c.requires.shown.1 in
-    let e = c.in-Leaf.is in
-    let l = c.in-Leaf.leaf in
-    let w = subst (Taken a.names.text.now a.t) e c.requires.ascending.2 in
-    let h = subst (λ x. Apt (names_of a.names.text.now a.names.tables.now) (symbol_at a.names.text.now a.t x) a.s) e c.requires.shown.3 in
-    record {
-      ascending = (c.requires.ascending.0, c.requires.ascending.1, record { at = w.at; lexed = w.lexed; kind = w.kind });
-      room = (h.0, room_for (leaf_count (leaf_at a.names.text.now a.t l)) S.holds h.1, S.long_done, S.tall);
-    }
-
-pub enter-requires : goal.enter-requires
-enter-requires c = let a = c.args in
-    let S = c.requires.shown.1 in
-    let h = subst (λ x. Apt (names_of a.names.text.now a.names.tables.now) (symbol_at a.names.text.now a.t x) a.s) c.in-Opens.is c.requires.shown.3 in
-    record {
-      ascending = (
-        c.requires.ascending.1.tables_listed,
-        tells_length a.patterns.now a.names.text.now a.names.tables.now c.requires.shown.0.known S.known_shown,
-        subst (Tabled (names_of a.names.text.now a.names.tables.now)) (sym (opener_token a.names.text.now a.t c.in-Opens.opener)) h.0,
-      );
-      bounds = (h.1, S.long_opened);
-    }
-
-pub leave-requires : goal.leave-requires
-leave-requires c = let a = c.args in
+pub leave-requires-clause-numbered : goal.leave-requires-clause-numbered
+leave-requires-clause-numbered c = let a = c.args in
     let S = c.requires.shown.1 in
     let h = subst (λ x. Apt (names_of a.names.text.now a.names.tables.now) (symbol_at a.names.text.now a.t x) a.s) c.in-Closes.is c.requires.shown.3 in
-    record {
-      numbered = (c.requires.ascending.1, tells_length a.patterns.now a.names.text.now a.names.tables.now c.requires.shown.0.known S.known_shown, latest_tabled S h.1 c.requires.shown.2);
-      room = (room_for 1 S.holds (omega arith), S.long_done, S.long_opened, h.0, S.tall, h.1, h.2);
-    }
+    (c.requires.ascending.1, tells_length a.patterns.now a.names.text.now a.names.tables.now c.requires.shown.0.known S.known_shown, latest_tabled S h.1 c.requires.shown.2)
 
 pub follow-requires : goal.follow-requires
 follow-requires c = let a = c.args in
     let S = c.requires.shown.1 in
     let u = unary_asks S And (subst (λ x. Apt (names_of a.names.text.now a.names.tables.now) (symbol_at a.names.text.now a.t x) a.s) c.in-And.is c.requires.shown.3) in
-    (S.long_done, u.0, S.tall, u.1 (get_or a.done.now (a.s.complete - 1) 0))
+    (S.long_done, u.0, S.tall, u.1 (get_or a.stacks.now.done (a.s.complete - 1) 0))
 
 pub follow-requires-in-Not : goal.follow-requires-in-Not
 follow-requires-in-Not c = let a = c.args in
     let S = c.requires.shown.1 in
     let u = unary_asks S Not (subst (λ x. Apt (names_of a.names.text.now a.names.tables.now) (symbol_at a.names.text.now a.t x) a.s) c.in-Not.is c.requires.shown.3) in
-    (S.long_done, u.0, S.tall, u.1 (get_or a.done.now (a.s.complete - 1) 0))
+    (S.long_done, u.0, S.tall, u.1 (get_or a.stacks.now.done (a.s.complete - 1) 0))
 
 pub follow-requires-in-After : goal.follow-requires-in-After
 follow-requires-in-After c = let a = c.args in
     let S = c.requires.shown.1 in
     let u = unary_asks S (After c.in-After.suffix) (subst (λ x. Apt (names_of a.names.text.now a.names.tables.now) (symbol_at a.names.text.now a.t x) a.s) c.in-After.is c.requires.shown.3) in
-    (S.long_done, u.0, S.tall, u.1 (get_or a.done.now (a.s.complete - 1) 0))
-
-pub join-requires : goal.join-requires
-join-requires c = let a = c.args in
-    let S = c.requires.shown.1 in
-    let u = join_asks S Sequence (subst (λ x. Apt (names_of a.names.text.now a.names.tables.now) (symbol_at a.names.text.now a.t x) a.s) c.in-Sequence.is c.requires.shown.3) in
-    (S.long_done, u.0, S.tall, u.1)
-
-pub join-requires-in-Choice : goal.join-requires-in-Choice
-join-requires-in-Choice c = let a = c.args in
-    let S = c.requires.shown.1 in
-    let u = join_asks S Choice (subst (λ x. Apt (names_of a.names.text.now a.names.tables.now) (symbol_at a.names.text.now a.t x) a.s) c.in-Choice.is c.requires.shown.3) in
-    (S.long_done, u.0, S.tall, u.1)
+    (S.long_done, u.0, S.tall, u.1 (get_or a.stacks.now.done (a.s.complete - 1) 0))
 
 pub returns-in-Head : goal.returns-in-Head
 returns-in-Head c st S = let a = c.args in

@@ -13,9 +13,6 @@ pub add_parts-r-requires : goal.add_parts-r-requires
 add_parts-r-requires c = let o = c.requires.2 in
     (c.requires.0, record { long = o.long; low = o.low; few = omega (arith, o.few, class_count (parts_of (drop c.args.start c.args.text.now)) c.requires.1) })
 
-pub overflow_sub-r-2 : goal.overflow_sub-r-2
-overflow_sub-r-2 c = omega (arith, c.requires.1, c.add_parts-r.ensures.many, length-map (parts_of (drop c.args.start c.args.text.now)) part_node)
-
 pub add_choices-requires : goal.add_choices-requires
 add_choices-requires c = let ps = parts_of (drop c.args.start c.args.text.now) in
     let a = c.add_parts-r.ensures in

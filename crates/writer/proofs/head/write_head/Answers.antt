@@ -1,10 +1,7 @@
 -- `write_head` meets its promise. Assumes nothing.
 use Rattle.std.proofs.Common.{[], ◌∷◌, length, arith}
-use Rattle.writer.specs.PutLaws.{numbers_most, small_most}
+use Rattle.writer.specs.PutLaws.{small_most}
 use Rattle.writer.proofs.head.write_head.Goals as goal
-
-pub put_row-end-requires : goal.put_row-end-requires
-put_row-end-requires c = omega (arith, numbers_most (1 ∷ length c.args.patterns.now ∷ c.args.switches ∷ c.args.nodes ∷ c.args.start ∷ []))
 
 pub put_row-requires : goal.put_row-requires
 put_row-requires c = omega (
