@@ -1,4 +1,6 @@
 // A place in a text, and the line that it is in.
+ghost use Rattle.std.specs.Prelude.{◌≡◌, drop};
+
 #[derive(Clone, Copy)]
 pub struct Place<'a> {
     pub text: &'a [u8],
@@ -16,7 +18,9 @@ pub struct Line<'a> {
 
 impl<'a> Place<'a> {
     // The text from the place on.
-    pub fn rest(self) -> &'a [u8] {
+    pub fn rest(self) -> &'a [u8]
+        ensures { result.now ≡ drop self.entry.at self.entry.text.now }
+    {
         self.text.get(self.at..).unwrap_or(&[])
     }
 
