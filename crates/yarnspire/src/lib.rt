@@ -120,7 +120,7 @@ fn write(
 }
 
 // An answer, and the accepted front of the input as a part of the caller's own bytes: empty where nothing is accepted. (The promise fixes the bytes
-// that are handed back; that they lie at the input's front is seen in the last line of `accepted_text` alone.)
+// that are handed back; that they lie at the input's front is seen in the body of `accepted_text` alone.)
 #[derive(Clone, Copy)]
 pub struct Recognition<'a> {
     pub answer: Answer,
