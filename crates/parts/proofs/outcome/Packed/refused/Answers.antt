@@ -4,7 +4,7 @@ use Rattle.parts.specs.PackedLaws.{number_range, opens_stop}
 use Rattle.parts.proofs.outcome.Packed.refused.Goals as goal
 
 pub shut-requires : goal.shut-requires
-shut-requires c = let l = number_range c.args.stop in (omega (arith, c.number.ensures, l), c.requires.0, omega arith, c.requires.1, c.requires.2)
+shut-requires c = let l = number_range c.args.stop in (omega (arith, c.number.ensures, l), omega arith, omega arith, omega arith, omega arith)
 
 pub returns : goal.returns
 returns c = let a = c.args in let l = number_range a.stop in
