@@ -1,6 +1,6 @@
 // Two names of a text, in byte order.
 ghost use Rattle.std.specs.Prelude.{◌≡◌, drop};
-ghost use Rattle.std.specs.List.{take_while};
+ghost use Rattle.std.specs.List.{slice_get, take_while};
 ghost use Rattle.std.specs.Cmp.Lexicographic.{slice_cmp};
 ghost use Rattle.std.specs.Ordering.{nat_cmp};
 ghost use Rattle.notation.specs.Bytes.{name_byte};
@@ -11,13 +11,24 @@ ghost use Rattle.index.specs.Listed.{order_of};
 use lexer::name::is_name;
 use std::cmp::Ordering;
 
-// How the bytes of a name in front of one text stand to those in front of another.
+// The byte of a name at a place; none where no name's byte stands there.
+fn named(s: &[u8], i: usize) -> Option<u8>
+    ensures { result ≡ slice_get (take_while name_byte (drop i s.now)) 0 }
+{
+    s.get(i).copied().filter(|b| is_name(*b))
+}
+
+// How the bytes of a name in front of one text stand to those in front of another: by the first place where they differ or a name's bytes end.
 fn order_in_front(a: &[u8], b: &[u8]) -> Ordering
     ensures { result ≡ slice_cmp nat_cmp (take_while name_byte a.now) (take_while name_byte b.now) }
 {
-    let a = a.iter().copied().take_while(|x| is_name(*x));
-    let b = b.iter().copied().take_while(|x| is_name(*x));
-    a.cmp(b)
+    let shorter = a.len().min(b.len());
+    let end = a
+        .iter()
+        .zip(b)
+        .position(|(x, y)| x != y || !is_name(*x))
+        .unwrap_or(shorter);
+    named(a, end).cmp(&named(b, end))
 }
 
 // The bytes from a place on.
