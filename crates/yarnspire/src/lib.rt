@@ -22,6 +22,7 @@ use run::{allowed, run};
 pub use written::{compile, yarnspire_compile};
 
 // Says whether an image is good, or its first fault and where that is.
+#[tactic(auto, using(crate::proofs::CheckLaws::said))]
 pub fn check(image: &[u8]) -> Result<(), ImageRefusal>
     ensures { Checks image.now result }
 {
