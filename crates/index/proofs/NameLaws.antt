@@ -1,14 +1,16 @@
 -- The name in front of some bytes.
-use Rattle.std.proofs.Common.{ℕ, zero, suc, ◌+◌, ◌≡◌, refl, ap, sym, ◌∙◌, Bool, cond, true, false, not, ◌||◌, ◌==◌, List, [], ◌∷◌, length, drop, Some, None, arith}
+use Rattle.std.proofs.Common.{ℕ, zero, suc, ◌+◌, ◌≤◌, min, ◌≡◌, refl, ap, sym, ◌∙◌, Bool, cond, true, false, not, ◌||◌, ◌==◌, List, [], ◌∷◌, length, drop, Some, None, arith}
 use native.Mathlib.Numerals.{one-add}
 use Rattle.std.specs.Bool.{then_some}
-use Rattle.std.specs.List.{take_while, position, position_or_len, slice_get, zip}
-use Rattle.std.specs.Option.{option_cmp, unwrap_or}
+use Rattle.std.specs.List.{find, take_while, position_or_len, slice_get, zip}
+use Rattle.std.specs.Option.{option_cmp}
 use Rattle.std.specs.Ordering.{nat_cmp}
 use Rattle.std.specs.Cmp.Lexicographic.{slice_cmp}
 use Rattle.std.specs.declared.option.Option.{Option}
 use Rattle.std.proofs.lemmas.Bool.Decides.{nat_tests}
-use Rattle.std.proofs.lemmas.Grind.{common_steps}
+use Rattle.std.proofs.lemmas.List.Folds.{find_at}
+use Rattle.std.proofs.lemmas.Option.{some_pair_parts}
+use Rattle.std.proofs.lemmas.Slice.Zip.{length-zip}
 use Rattle.std.proofs.lemmas.List.Sums.{prefix_len-le-length, take_while-cons}
 use Rattle.notation.specs.Bytes.{name_byte}
 use Rattle.notation.specs.Lexer.{name_front}
@@ -117,6 +119,33 @@ order_at_end (x ∷ xs) (y ∷ ys) = go (x == y) (name_byte x) (name_byte y) ref
         let on : ends (x, y) ≡ false = rw (d, e) refl in
         rw (end_place x y xs ys on, byte_next x xs i, byte_next y ys i) (h ∙ sym (rest_decides x y (taken x xs e) (taken y ys f) d))
 
--- The place that `position` gives, or how many there are.
-pub place_or : {X : Type 0} (p : X → Bool) (xs : List X) (m : ℕ) → m ≡ length xs → unwrap_or (position p xs) m ≡ position_or_len p xs
-place_or p xs m e = let h = prefix_len-le-length (λ x. not (p x)) xs in grind (arith, common_steps, nat_tests)
+-- ## The place that is found
+
+pairs_at : (a b : List ℕ) (i x y : ℕ) → slice_get (zip a b) i ≡ Some (x, y) → (slice_get a i ≡ Some x) × (slice_get b i ≡ Some y)
+pairs_at [] b i x y h = absurd (cc)
+pairs_at (c ∷ a) [] i x y h = absurd (cc)
+pairs_at (c ∷ a) (d ∷ b) zero x y h = let e = some_pair_parts c x d y h in (ap Some e.0, ap Some e.1)
+pairs_at (c ∷ a) (d ∷ b) (suc i) x y h = pairs_at a b i x y h
+
+none_past : (ps : List (ℕ × ℕ)) (i : ℕ) → slice_get ps i ≡ None → length ps ≤ i
+none_past [] i h = omega arith
+none_past (p ∷ ps) zero h = absurd (cc)
+none_past (p ∷ ps) (suc i) h = let k : length ps ≤ i = none_past ps i h in omega arith
+
+module _ (a b : List ℕ) where
+  -- By the two bytes that are found.
+  pub by_found : (x y : ℕ) → find ends (zip a b) ≡ Some (x, y)
+      → option_cmp nat_cmp (then_some (name_byte x) x) (then_some (name_byte y) y) ≡ slice_cmp nat_cmp (take_while name_byte a) (take_while name_byte b)
+  by_found x y e =
+      let i = position_or_len ends (zip a b) in
+      let both = pairs_at a b i x y (sym (find_at ends (zip a b)) ∙ e) in
+      rw (← byte_some a i x both.0, ← byte_some b i y both.1) (order_at_end a b)
+
+  -- By the bytes behind the shorter, where none are found.
+  pub by_shorter : (m : ℕ) → find ends (zip a b) ≡ None → m ≡ min (length a) (length b) → ByPlace a b m
+  by_shorter m e f =
+      let past = none_past (zip a b) (position_or_len ends (zip a b)) (sym (find_at ends (zip a b)) ∙ e) in
+      let h = prefix_len-le-length (λ p. not (ends p)) (zip a b) in
+      let long = length-zip a b in
+      let here : position_or_len ends (zip a b) ≡ m = omega arith in
+      rw here at (order_at_end a b)
