@@ -54,7 +54,8 @@ fn hex_at(text: &[u8], at: usize) -> Option<Read<u8>>
     })
 }
 
-// The byte that the bytes behind a `\` stand for.
+// The byte that the bytes behind a `\` stand for. Not written into `char_at`, which stays small enough to be written into its own callers.
+#[inline(never)]
 #[tactic(auto, using(crate::proofs::WrittenLaws::over, crate::proofs::WrittenLaws::front), unfolding(crate::specs::Char::escaped_of, crate::specs::Char::one))]
 fn escaped_at(text: &[u8], at: usize) -> Option<Read<u8>>
     ensures { ReadsByte (escaped_of (drop at text.now)) text.now at result }
@@ -70,6 +71,7 @@ fn escaped_at(text: &[u8], at: usize) -> Option<Read<u8>>
 }
 
 // The byte that is written at a place.
+#[inline]
 #[tactic(auto, using(crate::proofs::WrittenLaws::over, crate::proofs::WrittenLaws::front), unfolding(crate::specs::Char::char_of))]
 pub fn char_at(text: &[u8], at: usize) -> Option<Read<u8>>
     ensures { ReadsByte (char_of (drop at text.now)) text.now at result }

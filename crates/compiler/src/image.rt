@@ -104,7 +104,8 @@ fn build(
     finish(names, start, image)
 }
 
-// Gathers the names of a text that has passed, and makes its image.
+// Gathers the names of a text that has passed, and makes its image. A frame of its own, as `judge` has.
+#[inline(never)]
 pub(crate) fn write(text: &[u8], image: &mut [u8]) -> Result<u32, Refusal>
     requires { (length text.now ≤ 65535) × Passed text.now }
     ensures { Compiles text.now image.old image.new result }

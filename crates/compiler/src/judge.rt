@@ -82,7 +82,8 @@ fn rules(text: &[u8]) -> Result<(), Refusal>
     limits(text)
 }
 
-// 20, and then the rules.
+// 20, and then the rules. A frame of its own: what `write` needs is not there at the same time.
+#[inline(never)]
 pub(crate) fn judge(text: &[u8]) -> Result<(), Refusal>
     requires { length text.now ≤ 65535 }
     ensures { Judges text.now result }

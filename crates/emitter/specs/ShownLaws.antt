@@ -1,6 +1,6 @@
 -- What storing in the arrays of a walk shows.
 use Rattle.std.specs.Prelude.{ℕ, zero, suc, ◌+◌, ◌-◌, ◌≤◌, ◌<◌, ◌≡◌, refl, List, ◌∷◌, length, get_or, set}
-use Rattle.std.proofs.Common.{ap, ◌∙◌, arith, add-one, length-set, get_or-set_same, get_or-set_other}
+use Rattle.std.proofs.Common.{◌*◌, ◌/◌, ◌%◌, ap, ◌∙◌, arith, add-one, length-set, get_or-set_same, get_or-set_other}
 use Rattle.grammar.specs.Expr.{Expr}
 use Rattle.notation.specs.Tree.{Name, Leaf, any, quoted, class, call, query, if, leaf}
 use Rattle.notation.specs.At.{name_at}
@@ -75,6 +75,14 @@ leaf_some (query q t) = omega arith
 leaf_some (if c w) = omega arith
 
 -- ## What is open
+
+-- Two numbers in one, of which the second is below 16, are read back.
+module _ (p m : ℕ) (h : m < 16) where
+  mark_kept : (p * 16 + m) % 16 ≡ m
+  mark_kept = omega arith
+
+  place_kept : (p * 16 + m) / 16 ≡ p
+  place_kept = omega arith
 
 pub enters_set :
     {text : List ℕ} {ts : List Name} {was now : List ℕ} (opened : List Opened) (s : State) (v : Opened) → s.openers < length opened

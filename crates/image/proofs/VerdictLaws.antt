@@ -1,6 +1,6 @@
 -- An image that `load` finds good is good by `check`.
 use Rattle.std.proofs.Common.{arith}
-use Rattle.std.specs.Prelude.{ℕ, ◌≡◌, refl, Result, Ok, Err}
+use Rattle.std.specs.Prelude.{ℕ, ◌≡◌, refl, Result, Ok}
 use Rattle.reader.specs.declared.refusal.Refusal.{Refusal}
 use Rattle.image.specs.declared.head.Head.{Head}
 use Rattle.image.specs.Meant.{fine, loaded, answered, verdict}

@@ -10,7 +10,7 @@ use Rattle.format.specs.Reading.{Reading, got, fault, pick, ◌then◌}
 use Rattle.format.specs.Image.{times, Head, bounded, head_at, patterns_at, good, read_image}
 use Rattle.image.specs.Word.{word_at}
 use Rattle.image.specs.Node.{node_of, expr_of, InImage}
-use Rattle.reader.specs.Meant.{told}
+use Rattle.reader.specs.Meant.{told, behind}
 use Rattle.image.specs.Meant.{answered, loaded}
 
 -- What was read goes on to more; a fault leaves what there is.
@@ -27,9 +27,11 @@ filling p to i (suc k) at l = unless (p i at) l (λ w next. filling p to (suc i)
 abbrev pub put_down : {A : Type 0} → List A → ℕ → Reading (Unit {0})
 put_down xs next = got tt next
 
--- What a loop that puts readings down gives, and what the array then holds. The reader then stands behind them, over the same image.
+-- What a loop that puts readings down gives, and what the array then holds. The reader then stands behind them, or where it stood if one was refused,
+-- over the same image.
 pub record Fills (p : ℕ → ℕ → Reading ℕ) (to k : ℕ) (from after : Reader) (before now : List ℕ) (r : Result (Unit {0}) Refusal) : Type 0 where
   pub result : told r after.at ≡ (times p 0 k from.at then put_down)
+  pub stands : after.at ≡ behind (times p 0 k from.at then put_down) from.at
   pub image : after.image ≡ from.image
   pub array : now ≡ filling p to 0 k from.at before
 

@@ -3,7 +3,7 @@ use Rattle.std.specs.Prelude.{◌≡◌, ℕ, Result, Ok, Err}
 use Rattle.grammar.specs.Grammar.{tables, size}
 use Rattle.reader.specs.declared.reader.Reader.{Reader}
 use Rattle.reader.specs.declared.refusal.Refusal.{Refusal}
-use Rattle.reader.specs.Meant.{number_of}
+use Rattle.reader.specs.Meant.{number_of, behind}
 use Rattle.image.specs.declared.head.Head as code
 use Rattle.image.specs.Shapes.{head_from}
 use Rattle.format.specs.Reading.{Reading, got, fault}
@@ -18,9 +18,10 @@ abbrev pub headed : Result code.Head Refusal → (at : ℕ) → Reading Head
 headed (Ok h) at = got (heading h) at
 headed (Err f) at = fault (number_of f.fault) f.place
 
--- What reading them gives; the reader then stands behind them, over the same image.
+-- What reading them gives; the reader then stands behind them, or where it stood if they were refused, over the same image.
 pub record Begins (before after : Reader) (r : Result code.Head Refusal) : Type 0 where
   pub result : headed r after.at ≡ head_from before.image.now before.at
+  pub stands : after.at ≡ behind (head_from before.image.now before.at) before.at
   pub image : after.image ≡ before.image
 
 -- What is said of an image: what is told of a good one, or the number and the place of a refusal.

@@ -1,8 +1,8 @@
 -- The operands of a node as a word, by their shape, and the numbers that an image begins with: what the functions that read them promise.
-use Rattle.std.specs.Prelude.{ℕ, ◌+◌, List, leb, length}
+use Rattle.std.specs.Prelude.{ℕ, ◌+◌, List, leb, length, get_or}
 use Rattle.format.specs.Reading.{Reading, got, fault, pick, ◌then◌}
-use Rattle.format.specs.Image.{Head, within, below, bounded}
-use Rattle.image.specs.Word.{packed, switch}
+use Rattle.format.specs.Image.{Head, within, below, bounded, kinds}
+use Rattle.image.specs.Word.{packed, switch, keep}
 
 -- A word with its last operand in it.
 abbrev pub word1 : (tag a at : ℕ) → Reading ℕ
@@ -51,6 +51,10 @@ module _ (image : List ℕ) where
 
   abbrev pub on_at : (conditions own at : ℕ) → Reading ℕ
   on_at conditions own at = switch_at conditions at then last_at 18 own
+
+  -- The operands after a tag, as a word.
+  abbrev pub operands_at : (T C N own tag at : ℕ) → Reading ℕ
+  operands_at T C N own tag at = get_or (kinds image T C N own) tag (fault 6) at then keep
 
   -- The numbers that an image begins with, from a place on; those of the image itself are from 0 on.
   abbrev pub head_from : ℕ → Reading Head

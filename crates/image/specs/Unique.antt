@@ -1,12 +1,12 @@
 -- Two outcomes that a promise permits are equal.
 use mathlib.Core.HLevel.{is_prop→PathP}
-use Rattle.std.specs.Prelude.{ℕ, ◌≤◌, ◌<◌, ◌≡◌, List, Option, Result, Ok, Err}
+use Rattle.std.specs.Prelude.{ℕ, ◌≤◌, ◌<◌, ◌≡◌, List, Option, Result, Ok, Err, IfOk}
 use Rattle.std.proofs.Math.Bridge.{le_prop}
 use Rattle.std.proofs.Common.{ap, sym, ◌∙◌, arith}
 use Rattle.reader.specs.declared.reader.Reader.{Reader}
 use Rattle.reader.specs.declared.refusal.Refusal.{Refusal}
 use Rattle.reader.specs.Meant.{number_of}
-use Rattle.reader.specs.Unique.{one_refusal, one_told}
+use Rattle.reader.specs.Unique.{one_refusal, one_told, same_reader}
 use Rattle.image.specs.declared.head.Head as code
 use Rattle.format.specs.Reading.{Reading}
 use Rattle.format.specs.Image.{Head, read_image}
@@ -15,9 +15,9 @@ use Rattle.image.specs.declared.node.Span.{Span}
 use Rattle.image.specs.Word.{packed}
 use Rattle.image.specs.Node.{node_of, span_of}
 use Rattle.image.specs.Filled.{Fills, Loads}
-use Rattle.image.specs.Meant.{heading, headed, loaded, checked, verdict}
+use Rattle.image.specs.Meant.{heading, headed, Begins, loaded, checked, verdict}
 
--- `bounded`, `word_at` and every function that reads operands promise `told r at ≡ x`, in `Reads`: `one_told` of `reader`.
+-- `bounded`, `word_at` and every function that reads operands promise `Reads`: `one_read` of `reader`.
 
 -- A head is its four numbers.
 pub one_heading : (h k : code.Head) → heading h ≡ heading k → h ≡ k
@@ -37,23 +37,33 @@ one_heading h k e =
       starts = is_prop→PathP (λ j. start j < nodes j) (λ j. le_prop) h.starts k.starts i;
     }
 
--- `head_of`: it promises `headed r at ≡ x`.
-pub one_header : (r s : Result code.Head Refusal) (at at' : ℕ) {x : Reading Head} → headed r at ≡ x → headed s at' ≡ x → r ≡ s
+-- The numbers that an image begins with, and the place after them where they were read.
+pub one_header :
+    (r s : Result code.Head Refusal) (at at' : ℕ) {x : Reading Head} → headed r at ≡ x → headed s at' ≡ x → (r ≡ s) × IfOk r (λ _. at ≡ at')
 one_header r s at at' e f = same r s (e ∙ sym f)
   where
-    same : (r s : Result code.Head Refusal) → headed r at ≡ headed s at' → r ≡ s
-    same (Ok h) (Ok k) e = let head : heading h ≡ heading k = cc in ap Ok (one_heading h k head)
+    same : (r s : Result code.Head Refusal) → headed r at ≡ headed s at' → (r ≡ s) × IfOk r (λ _. at ≡ at')
+    same (Ok h) (Ok k) e =
+        let head : heading h ≡ heading k = cc in let place : at ≡ at' = cc in (ap Ok (one_heading h k head), place)
     same (Ok h) (Err g) e = let z : ◌≡◌ {A = ℕ} 0 1 = cc in absurd (omega arith)
     same (Err f) (Ok k) e = let z : ◌≡◌ {A = ℕ} 0 1 = cc in absurd (omega arith)
     same (Err f) (Err g) e =
         let number : number_of f.fault ≡ number_of g.fault = cc in let place : f.place ≡ g.place = cc in
-        ap Err (one_refusal f g number place)
+        (ap Err (one_refusal f g number place), tt)
 
--- `fill_patterns` and `fill_nodes`: what is read and what the array holds.
+-- `head_of`: what is read, and the reader after it, after a refusal too.
+pub one_beginning :
+    {before after after' : Reader} {r r' : Result code.Head Refusal} → Begins before after r → Begins before after' r'
+    → (r ≡ r') × (after ≡ after')
+one_beginning {after = after} {after' = after'} {r = r} {r' = r'} f g =
+    ((one_header r r' after.at after'.at f.result g.result).0, same_reader (f.image ∙ sym g.image) (f.stands ∙ sym g.stands))
+
+-- `fill_patterns` and `fill_nodes`: what is read, the reader after it and what the array holds, after a refusal too.
 pub one_filling :
     {p : ℕ → ℕ → Reading ℕ} {to k : ℕ} {from end end' : Reader} {before after after' : List ℕ} {r r' : Result (Unit {0}) Refusal}
-    → Fills p to k from end before after r → Fills p to k from end' before after' r' → (r ≡ r') × (after ≡ after')
-one_filling {end = end} {end' = end'} {r = r} {r' = r'} f g = (one_told r r' end.at end'.at f.result g.result, f.array ∙ sym g.array)
+    → Fills p to k from end before after r → Fills p to k from end' before after' r' → (r ≡ r') × (end ≡ end') × (after ≡ after')
+one_filling {end = end} {end' = end'} {r = r} {r' = r'} f g =
+    (one_told r r' end.at end'.at f.result g.result, same_reader (f.image ∙ sym g.image) (f.stands ∙ sym g.stands), f.array ∙ sym g.array)
 
 -- `load`: what is said and what the array holds, after a refusal too.
 pub one_loading :

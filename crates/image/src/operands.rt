@@ -1,8 +1,10 @@
 // Reading a node: its tag, and then its operands, one function for each shape that operands have. Each gives the node's word.
+//
+// After a refusal the reader stands where it stood: a function that reads more than once goes ahead with a copy of it.
 ghost use Rattle.std.specs.Prelude.{◌+◌, ◌*◌, ◌<◌, ◌≤◌, length, IfOk};
 ghost use Rattle.image.specs.Word.{word_at};
 ghost use Rattle.reader.specs.Meant.{Reads};
-ghost use Rattle.image.specs.Shapes.{one_at, two_at, range_at, text_at, switch_at, if_at, on_at};
+ghost use Rattle.image.specs.Shapes.{one_at, two_at, range_at, text_at, switch_at, if_at, on_at, operands_at};
 
 use crate::head::Head;
 use crate::node::word;
@@ -24,8 +26,10 @@ fn two_operands(reader: &mut Reader, tag: u32, first: u32, second: u32) -> Resul
     requires { (tag < 32) × (first ≤ 512) × (second ≤ 512) }
     ensures { Reads (two_at reader.old.image.now tag first second) reader.old reader.new result }
 {
-    let a = bounded(reader, 0..first, Fault::Range)?;
-    let b = bounded(reader, 0..second, Fault::Range)?;
+    let mut ahead = *reader;
+    let a = bounded(&mut ahead, 0..first, Fault::Range)?;
+    let b = bounded(&mut ahead, 0..second, Fault::Range)?;
+    *reader = ahead;
     Ok(word(tag, a, b))
 }
 
@@ -33,8 +37,10 @@ fn two_operands(reader: &mut Reader, tag: u32, first: u32, second: u32) -> Resul
 fn range_operands(reader: &mut Reader) -> Result<u32, Refusal>
     ensures { Reads (range_at reader.old.image.now) reader.old reader.new result }
 {
-    let lo = bounded(reader, 0..256, Fault::Range)?;
-    let hi = bounded(reader, lo..256, Fault::Range)?;
+    let mut ahead = *reader;
+    let lo = bounded(&mut ahead, 0..256, Fault::Range)?;
+    let hi = bounded(&mut ahead, lo..256, Fault::Range)?;
+    *reader = ahead;
     Ok(word(2, lo, hi))
 }
 
@@ -43,10 +49,12 @@ fn text_operands(reader: &mut Reader) -> Result<u32, Refusal>
     requires { length reader.old.image.now ≤ 16384 }
     ensures { Reads (text_at reader.old.image.now) reader.old reader.new result }
 {
+    let place = reader.stands();
     let count = bounded(reader, 1..65, Fault::Range)?;
     let end = reader.image.len();
     let start = reader.stands();
     if end.saturating_sub(start) < count as usize {
+        reader.at = place;
         return Err(Fault::Cut.at(end));
     }
     reader.at = start + count as usize;
@@ -59,8 +67,10 @@ fn switch(reader: &mut Reader, conditions: u32) -> Result<u32, Refusal>
     ensures reads { Reads (switch_at reader.old.image.now conditions) reader.old reader.new result }
     ensures within { IfOk result (λ n. n < conditions * 2) }
 {
-    let condition = bounded(reader, 0..conditions, Fault::Range)?;
-    let truth = bounded(reader, 0..2, Fault::Range)?;
+    let mut ahead = *reader;
+    let condition = bounded(&mut ahead, 0..conditions, Fault::Range)?;
+    let truth = bounded(&mut ahead, 0..2, Fault::Range)?;
+    *reader = ahead;
     Ok(condition * 2 + truth)
 }
 
@@ -78,17 +88,18 @@ fn on_operands(reader: &mut Reader, conditions: u32, own: u32) -> Result<u32, Re
     requires { (conditions ≤ 512) × (own ≤ 512) }
     ensures { Reads (on_at reader.old.image.now conditions own) reader.old reader.new result }
 {
-    let switched = switch(reader, conditions)?;
-    let a = bounded(reader, 0..own, Fault::Range)?;
+    let mut ahead = *reader;
+    let switched = switch(&mut ahead, conditions)?;
+    let a = bounded(&mut ahead, 0..own, Fault::Range)?;
+    *reader = ahead;
     Ok(word(18, switched, a))
 }
 
-// The next node as a word, by its own number and the head of its image.
-pub fn word_at(reader: &mut Reader, head: Head, own: u32) -> Result<u32, Refusal>
-    requires { (own ≤ 512) × (length reader.old.image.now ≤ 16384) }
-    ensures { Reads (word_at reader.old.image.now head.tables head.conditions head.nodes own) reader.old reader.new result }
+// The operands behind a tag, as the node's word.
+fn operands_at(reader: &mut Reader, tag: u32, head: Head, own: u32) -> Result<u32, Refusal>
+    requires { (tag < 19) × (own ≤ 512) × (length reader.old.image.now ≤ 16384) }
+    ensures { Reads (operands_at reader.old.image.now head.tables head.conditions head.nodes own tag) reader.old reader.new result }
 {
-    let tag = bounded(reader, 0..19, Fault::Tag)?;
     match tag {
         0 => Ok(word(tag, 0, 0)),
         1 => one_operand(reader, tag, 256),
@@ -103,4 +114,16 @@ pub fn word_at(reader: &mut Reader, head: Head, own: u32) -> Result<u32, Refusal
         17 => if_operands(reader, head.conditions),
         _ => on_operands(reader, head.conditions, own),
     }
+}
+
+// The next node as a word, by its own number and the head of its image.
+pub fn word_at(reader: &mut Reader, head: Head, own: u32) -> Result<u32, Refusal>
+    requires { (own ≤ 512) × (length reader.old.image.now ≤ 16384) }
+    ensures { Reads (word_at reader.old.image.now head.tables head.conditions head.nodes own) reader.old reader.new result }
+{
+    let mut ahead = *reader;
+    let tag = bounded(&mut ahead, 0..19, Fault::Tag)?;
+    let kept = operands_at(&mut ahead, tag, head, own)?;
+    *reader = ahead;
+    Ok(kept)
 }

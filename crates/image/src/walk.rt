@@ -10,15 +10,17 @@ use crate::number::bounded;
 use crate::operands::word_at;
 use reader::{Fault, Reader, Refusal};
 
-// Edition, tables, conditions, nodes, start.
+// Edition, tables, conditions, nodes, start. After a refusal the reader stands where it stood, here and in the two loops below.
 fn head_of(reader: &mut Reader) -> Result<Head, Refusal>
     ensures { Begins reader.old reader.new result }
 {
-    bounded(reader, 1..2, Fault::Edition)?;
-    let tables = bounded(reader, 0..9, Fault::Counts)?;
-    let conditions = bounded(reader, 0..9, Fault::Counts)?;
-    let nodes = bounded(reader, 1..513, Fault::Counts)?;
-    let start = bounded(reader, 0..nodes, Fault::Range)?;
+    let mut ahead = *reader;
+    bounded(&mut ahead, 1..2, Fault::Edition)?;
+    let tables = bounded(&mut ahead, 0..9, Fault::Counts)?;
+    let conditions = bounded(&mut ahead, 0..9, Fault::Counts)?;
+    let nodes = bounded(&mut ahead, 1..513, Fault::Counts)?;
+    let start = bounded(&mut ahead, 0..nodes, Fault::Range)?;
+    *reader = ahead;
     Ok(Head {
         tables,
         conditions,
@@ -31,9 +33,11 @@ fn head_of(reader: &mut Reader) -> Result<Head, Refusal>
 fn fill_patterns(reader: &mut Reader, head: Head, code: &mut [u32; 524]) -> Result<(), Refusal>
     ensures { Fills (λ t. bounded reader.old.image.now 7 0 head.nodes) 512 head.tables reader.old reader.new code.old code.new result }
 {
+    let mut ahead = *reader;
     for t in 0..head.tables {
-        code[(512 + t) as usize] = bounded(reader, 0..head.nodes, Fault::Range)?;
+        code[(512 + t) as usize] = bounded(&mut ahead, 0..head.nodes, Fault::Range)?;
     }
+    *reader = ahead;
     Ok(())
 }
 
@@ -42,9 +46,11 @@ fn fill_nodes(reader: &mut Reader, head: Head, code: &mut [u32; 524]) -> Result<
     requires { length reader.old.image.now ≤ 16384 }
     ensures { Fills (word_at reader.old.image.now head.tables head.conditions head.nodes) 0 head.nodes reader.old reader.new code.old code.new result }
 {
+    let mut ahead = *reader;
     for own in 0..head.nodes {
-        code[own as usize] = word_at(reader, head, own)?;
+        code[own as usize] = word_at(&mut ahead, head, own)?;
     }
+    *reader = ahead;
     Ok(())
 }
 

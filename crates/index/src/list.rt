@@ -4,6 +4,7 @@ ghost use Rattle.notation.specs.At.{name_at};
 ghost use Rattle.index.specs.Listed.{names_at, Ascending, Seeks, put_in, Keeps};
 
 use crate::order::order_at;
+use std::cmp::Ordering;
 
 // How many names there are now, where the name stands, and whether it is fresh among them. All three are there for a fresh name and for an old one.
 #[derive(Clone, Copy)]
@@ -14,12 +15,23 @@ pub struct Kept {
 }
 
 // Plain arguments, and the order is asked for: docs/DECISIONS.md names this promise and what each caller knows it from.
-// Looks for the name at p among the names at the places of a list, by halves: where it stands, or where it belongs if it is not there.
+// Looks for the name at p among the names at the places of a list, by halves: where it stands, or where it belongs if it is not there. The loop is by hand: it ends
+// where the name is found, and std's search by halves goes on to the last half.
 pub fn seek(text: &[u8], at: &[u16], p: usize) -> Result<usize, usize>
     requires { Ascending (names_at text.now at.now (length at.now)) }
     ensures { Seeks (name_at text.now p) (names_at text.now at.now (length at.now)) result }
 {
-    at.binary_search_by(|q| order_at(text, usize::from(*q), p))
+    let mut low = 0;
+    let mut high = at.len();
+    while low < high {
+        let index = low + (high - low) / 2;
+        match order_at(text, p, usize::from(at[index])) {
+            Ordering::Less => high = index,
+            Ordering::Equal => return Ok(index),
+            Ordering::Greater => low = index + 1,
+        }
+    }
+    Err(low)
 }
 
 // The array is the caller's and its front is counted beside it: no memory is taken here.

@@ -1,15 +1,16 @@
 -- Two outcomes that a promise permits are equal. A function that gives an outcome in one number promises what that number opens to: the
 -- outcome is fixed, though more than one number opens to it.
-use Rattle.std.specs.Prelude.{ℕ, ◌≡◌, List, length}
+use Rattle.std.specs.Prelude.{ℕ, ◌≡◌, List, Option, length}
 use Rattle.std.proofs.Common.{ap, sym, ◌∙◌, arith}
-use Rattle.meaning.specs.State.{Env}
+use Rattle.meaning.specs.State.{Symbol, Env}
 use Rattle.parts.specs.declared.outcome.Outcome.{Outcome}
 use Rattle.parts.specs.declared.outcome.Outcome.TheVariants.{Passed, Failed, Refused}
 use Rattle.kinds.specs.declared.state.State.{State}
 use Rattle.parts.specs.declared.outcome.Packed.{Packed}
 use Rattle.parts.specs.Packed.{opened_of}
 use Rattle.parts.specs.PackedLaws.{number_once}
-use Rattle.parts.specs.Slots.{symbols}
+use Rattle.parts.specs.declared.slots.Symbol as held
+use Rattle.parts.specs.Slots.{meant, symbols}
 use Rattle.parts.specs.SlotsLaws.{symbols_length, closes_once}
 use Rattle.kinds.specs.Held.{env_of}
 use Rattle.kinds.specs.Turned.{ClosedOf}
@@ -19,6 +20,15 @@ use Rattle.machine.specs.Ready.{read_back, Done}
 -- `Packed::at`, `held`, `steps`, `depth`, and `Stop::number`: each promises its number.
 pub one_number : (r r' : ℕ) {n : ℕ} → r ≡ n → r' ≡ n → r ≡ r'
 one_number r r' e f = e ∙ sym f
+
+-- `latest`: it promises the symbol's number, or that there is none.
+pub one_latest : (r r' : Option ℕ) {n : Option ℕ} → r ≡ n → r' ≡ n → r ≡ r'
+one_latest r r' e f = e ∙ sym f
+
+-- `symbol_at`: what it gives stands for the symbol of a number, and has nothing else.
+pub one_symbol : (s s' : held.Symbol) {m : Symbol} → meant s ≡ m → meant s' ≡ m → s ≡ s'
+one_symbol s s' e f =
+    let g = e ∙ sym f in λ i. record { table = (g i).table; start = (g i).from; end = (g i).to }
 
 -- `store`, and `fill` and `copy_from_slice` of std: each promises the whole list.
 pub one_list : (l l' : List ℕ) {m : List ℕ} → l ≡ m → l' ≡ m → l ≡ l'

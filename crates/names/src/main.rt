@@ -6,5 +6,5 @@ use std::io;
 
 fn main(rt: HostRuntime) -> io::Result<()> {
     let err = rt.stderr();
-    office::program(&rt, &err, "names [RULES TEXT]", Listing::Names)
+    office::program(&rt, &err, b"usage: names [RULES TEXT]\n", Listing::Names)
 }

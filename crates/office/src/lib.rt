@@ -20,14 +20,14 @@ pub enum Listing {
 pub fn program(
     rt: &(impl Env + Files + Print),
     err: &impl Print,
-    usage: &str,
+    usage: &[u8],
     listing: Listing,
 ) -> io::Result<()> {
     if !argument::given(rt, 1) {
         return recognise(rt, err, b"rules", b"text", listing);
     }
     if !argument::given(rt, 2) || argument::given(rt, 3) {
-        return print!(err; "usage: {usage}\n");
+        return err.write_all(usage);
     }
     let mut rules = [0u8; 4096];
     let Some(rules) = word(rt, err, 1, b"the first name", &mut rules)? else {

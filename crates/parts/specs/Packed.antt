@@ -18,11 +18,8 @@ number_of Round = 15
 abbrev pub stop_of : ℕ → Stop
 stop_of n = pick (eqb n 12) Steps (pick (eqb n 13) Depth (pick (eqb n 14) Room Round))
 
-abbrev pub bits_of : (kind at held steps depth : ℕ) → ℕ
-bits_of kind at held steps depth = at + held * 65536 + depth * 33554432 + steps * 17179869184 + kind * 1152921504606846976
-
-abbrev pub packed : (kind at held steps depth : ℕ) → Packed
-packed kind at held steps depth = record { bits = bits_of kind at held steps depth }
+abbrev pub packed : (kind at held steps depth : ℕ) → ℕ
+packed kind at held steps depth = at + held * 65536 + depth * 33554432 + steps * 17179869184 + kind * 1152921504606846976
 
 -- What a number has of each part, but of the steps only a passed one.
 unfoldable pub at_of : Packed → ℕ
@@ -43,3 +40,9 @@ opened_of r =
     pick (ltb r.bits 1152921504606846976) (Passed (at_of r) (held_of r) (steps_of r) (depth_of r))
     (pick (ltb r.bits 2305843009213693952) (Failed (r.bits / 17179869184 % 67108864) (depth_of r))
     (Refused (stop_of (r.bits / 1152921504606846976)) (at_of r) (r.bits / 17179869184 % 67108864) (depth_of r)))
+
+-- The kind that an outcome has in one number.
+abbrev pub kind_of : Outcome → ℕ
+kind_of (Passed a h s d) = 0
+kind_of (Failed s d) = 1
+kind_of (Refused k p s d) = number_of k

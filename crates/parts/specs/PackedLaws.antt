@@ -1,15 +1,16 @@
 -- What was shut is what is opened, and what a number has of each part.
-use Rattle.std.specs.Prelude.{ℕ, ◌+◌, ◌*◌, ◌/◌, ◌%◌, ◌≤◌, ◌<◌, ◌≡◌, refl, Bool, true, false, ltb}
-use Rattle.std.proofs.Common.{ap, sym, ◌∙◌}
+use Rattle.std.specs.Prelude.{ℕ, zero, suc, ◌+◌, ◌-◌, ◌*◌, ◌/◌, ◌%◌, ◌≤◌, ◌<◌, ◌≡◌, refl, Bool, true, false, ltb}
+use Rattle.std.proofs.Common.{ap, sym, ◌∙◌, subst}
 use native.Mathlib.Omega.{arith}
 use Rattle.std.proofs.Math.Nat.{div-add-mod', mod-lt}
-use borrow.Author.Tests.{lt-ltb, le-ltb}
+use borrow.Author.Tests.{lt-ltb, le-ltb, ltb-true, ltb-false}
 use Rattle.format.specs.Reading.{pick}
 use Rattle.parts.specs.declared.outcome.Outcome.TheVariants.{Passed, Failed, Refused}
 use Rattle.parts.specs.declared.outcome.Stop.{Stop}
 use Rattle.parts.specs.declared.outcome.Stop.TheVariants.{Steps, Depth, Room, Round}
 use Rattle.parts.specs.declared.outcome.Packed.{Packed}
-use Rattle.parts.specs.Packed.{number_of, stop_of, bits_of, packed, at_of, held_of, steps_of, depth_of, opened_of}
+use Rattle.parts.specs.Made.{Made}
+use Rattle.parts.specs.Packed.{number_of, stop_of, packed, at_of, held_of, steps_of, depth_of, opened_of, kind_of}
 
 -- ## What stops a run, and its number
 
@@ -29,61 +30,94 @@ number_range Round = (omega arith, omega arith)
 pub number_once : (k m : Stop) → number_of k ≡ number_of m → k ≡ m
 number_once k m e = sym (stop_back k) ∙ ap stop_of e ∙ stop_back m
 
+-- And each kind that is made and is not 0 or 1 is such a number.
+pub number_back : (kind : ℕ) → Made kind → 2 ≤ kind → number_of (stop_of kind) ≡ kind
+number_back kind m l =
+    let e : 12 + (kind - 12) ≡ kind = omega (arith, m.1 l) in
+    subst (λ n. number_of (stop_of n) ≡ n) e (go (kind - 12) (omega (arith, m.0)))
+  where
+    go : (n : ℕ) → n ≤ 3 → number_of (stop_of (12 + n)) ≡ 12 + n
+    go zero h = refl
+    go (suc zero) h = refl
+    go (suc (suc zero)) h = refl
+    go (suc (suc (suc zero))) h = refl
+    go (suc (suc (suc (suc n)))) h = absurd (omega arith)
+
+pub number_made : (k : Stop) → Made (number_of k)
+number_made k = let r = number_range k in (omega (arith, r), λ l. r.0)
+
+-- What passed and what failed is below 2 ^ 61.
+pub made_small : (bits : ℕ) → bits < 2305843009213693952 → Made (bits / 1152921504606846976)
+made_small bits l =
+    let q : bits / 1152921504606846976 < 2 = omega (arith, div-add-mod' bits 1152921504606846976, mod-lt bits {m = 1152921504606846976} (omega arith)) in
+    (omega arith, λ m. absurd (omega arith))
+
 -- ## Shut and opened
 
 -- The bits of a number n from 2 ^ k on, m of them: the quotient and the rest, as omega reads them.
 module _ (kind at held steps depth : ℕ) (hk : kind < 16) (ha : at ≤ 65535) (hh : held ≤ 511) (hs : steps < 67108864) (hd : depth ≤ 511) where
-  abbrev bits : ℕ
-  bits = bits_of kind at held steps depth
+  module _ {bits : ℕ} (shut : bits ≡ packed kind at held steps depth) where
+    -- The kind that was packed is the kind that is read, whichever it was.
+    pub kind_back : bits / 1152921504606846976 ≡ kind
+    kind_back = omega (arith, div-add-mod' bits 1152921504606846976, mod-lt bits {m = 1152921504606846976} (omega arith))
 
-  abbrev number : Packed
-  number = packed kind at held steps depth
+    pub made_back : Made kind → Made (bits / 1152921504606846976)
+    made_back m = rw kind_back m
 
-  place_back : at_of number ≡ at
-  unfolding at_of
-  place_back = omega (arith, div-add-mod' bits 65536, mod-lt bits {m = 65536} (omega arith))
+  module _ (number : Packed) (shut : number.bits ≡ packed kind at held steps depth) where
+    abbrev bits : ℕ
+    bits = number.bits
 
-  held_back : held_of number ≡ held
-  unfolding held_of
-  held_back =
-      let q = bits / 65536 in
-      omega (arith, div-add-mod' bits 65536, mod-lt bits {m = 65536} (omega arith), div-add-mod' q 512, mod-lt q {m = 512} (omega arith))
+    place_back : at_of number ≡ at
+    unfolding at_of
+    place_back = omega (arith, div-add-mod' bits 65536, mod-lt bits {m = 65536} (omega arith))
 
-  depth_back : depth_of number ≡ depth
-  unfolding depth_of
-  depth_back =
-      let q = bits / 33554432 in
-      omega (arith, div-add-mod' bits 33554432, mod-lt bits {m = 33554432} (omega arith), div-add-mod' q 512, mod-lt q {m = 512} (omega arith))
+    held_back : held_of number ≡ held
+    unfolding held_of
+    held_back =
+        let q = bits / 65536 in
+        omega (arith, div-add-mod' bits 65536, mod-lt bits {m = 65536} (omega arith), div-add-mod' q 512, mod-lt q {m = 512} (omega arith))
 
-  steps_rest : bits / 17179869184 % 67108864 ≡ steps
-  steps_rest =
-      let q = bits / 17179869184 in
-      omega (arith, div-add-mod' bits 17179869184, mod-lt bits {m = 17179869184} (omega arith), div-add-mod' q 67108864, mod-lt q {m = 67108864} (omega arith))
+    depth_back : depth_of number ≡ depth
+    unfolding depth_of
+    depth_back =
+        let q = bits / 33554432 in
+        omega (arith, div-add-mod' bits 33554432, mod-lt bits {m = 33554432} (omega arith), div-add-mod' q 512, mod-lt q {m = 512} (omega arith))
 
-  kind_back : bits / 1152921504606846976 ≡ kind
-  kind_back = omega (arith, div-add-mod' bits 1152921504606846976, mod-lt bits {m = 1152921504606846976} (omega arith))
+    steps_rest : bits / 17179869184 % 67108864 ≡ steps
+    steps_rest =
+        let q = bits / 17179869184 in
+        omega (arith, div-add-mod' bits 17179869184, mod-lt bits {m = 17179869184} (omega arith), div-add-mod' q 67108864, mod-lt q {m = 67108864} (omega arith))
 
-  pub opens_passed : kind ≡ 0 → opened_of number ≡ Passed at held steps depth
-  unfolding opened_of steps_of
-  opens_passed z =
-      let s : bits / 17179869184 ≡ steps = omega (arith, div-add-mod' bits 17179869184, mod-lt bits {m = 17179869184} (omega arith)) in
-      rw (lt-ltb bits 1152921504606846976 (omega arith), place_back, held_back, s, depth_back)
+    pub opens_passed : kind ≡ 0 → opened_of number ≡ Passed at held steps depth
+    unfolding opened_of steps_of
+    opens_passed z =
+        let s : bits / 17179869184 ≡ steps = omega (arith, div-add-mod' bits 17179869184, mod-lt bits {m = 17179869184} (omega arith)) in
+        rw (lt-ltb bits 1152921504606846976 (omega arith), place_back, held_back, s, depth_back)
 
-  pub opens_failed : kind ≡ 1 → opened_of number ≡ Failed steps depth
-  unfolding opened_of
-  opens_failed o = rw (le-ltb bits 1152921504606846976 (omega arith), lt-ltb bits 2305843009213693952 (omega arith), steps_rest, depth_back)
+    pub opens_failed : kind ≡ 1 → opened_of number ≡ Failed steps depth
+    unfolding opened_of
+    opens_failed o = rw (le-ltb bits 1152921504606846976 (omega arith), lt-ltb bits 2305843009213693952 (omega arith), steps_rest, depth_back)
 
-  pub opens_refused : 2 ≤ kind → opened_of number ≡ Refused (stop_of kind) at steps depth
-  unfolding opened_of
-  opens_refused l =
+    -- It is refused by what has the kind for its number.
+    pub opens_refused : 2 ≤ kind → (opened_of number ≡ Refused (stop_of kind) at steps depth) × (number_of (stop_of kind) ≡ kind)
+    unfolding opened_of
+    opens_refused l = (
       rw (
         le-ltb bits 1152921504606846976 (omega arith),
         le-ltb bits 2305843009213693952 (omega arith),
-        kind_back,
+        kind_back shut,
         place_back,
         steps_rest,
         depth_back,
-      )
+      ),
+      number_back kind (subst Made (kind_back shut) number.made) l,
+    )
+
+    pub opens_stop : (k : Stop) → kind ≡ number_of k → opened_of number ≡ Refused k at steps depth
+    opens_stop k e =
+        let r = number_range k in
+        (opens_refused (omega (arith, r))).0 ∙ ap (λ k. Refused k at steps depth) (ap stop_of e ∙ stop_back k)
 
 -- ## The number that an expression starts from
 
@@ -101,7 +135,7 @@ module _ (from : Packed) where
   depth_small = omega (arith, mod-lt (from.bits / 33554432) {m = 512} (omega arith))
 
   -- It is its parts.
-  pub whole : from.bits ≡ bits_of 0 (at_of from) (held_of from) (steps_of from) (depth_of from)
+  pub whole : from.bits ≡ packed 0 (at_of from) (held_of from) (steps_of from) (depth_of from)
   unfolding at_of held_of depth_of steps_of
   whole =
       omega (
@@ -119,7 +153,7 @@ module _ (from : Packed) where
       )
 
   -- Without its place and symbols it is its depth and steps.
-  pub tally_whole : from.bits / 33554432 * 33554432 ≡ bits_of 0 0 0 (steps_of from) (depth_of from)
+  pub tally_whole : from.bits / 33554432 * 33554432 ≡ packed 0 0 0 (steps_of from) (depth_of from)
   unfolding depth_of steps_of
   tally_whole =
       omega (
@@ -136,30 +170,52 @@ module _ (from : Packed) where
     pub short_number : from.bits < 18014398509481984
     short_number = omega (arith, whole, place_small, held_small, depth_small)
 
-    as_packed : {n m : ℕ} → n ≡ m → opened_of (record { bits = n }) ≡ opened_of (record { bits = m })
-    as_packed e = ap (λ n. opened_of (record { bits = n })) e
+    module _ {n bits : ℕ} (e : bits ≡ from.bits + n * 1152921504606846976) (l : n < 16) where
+      stopped_is : bits ≡ packed n (at_of from) (held_of from) (steps_of from) (depth_of from)
+      stopped_is = omega (arith, whole)
 
-    pub opens_stopped : (stop : Stop) {n : ℕ} → n ≡ number_of stop
-        → opened_of (record { bits = from.bits + n * 1152921504606846976 }) ≡ Refused stop (at_of from) (steps_of from) (depth_of from)
-    opens_stopped stop {n} i =
-        let r = number_range stop in
-        let e : from.bits + n * 1152921504606846976 ≡ bits_of n (at_of from) (held_of from) (steps_of from) (depth_of from) = omega (arith, whole) in
-        as_packed e
-        ∙ opens_refused n (at_of from) (held_of from) (steps_of from) (depth_of from) (omega (arith, r, i)) place_small held_small (omega (arith, few)) depth_small
-        (omega (arith, r, i))
-        ∙ ap (λ k. Refused k (at_of from) (steps_of from) (depth_of from)) (ap stop_of i ∙ stop_back stop)
+      pub made_stopped : Made n → Made (bits / 1152921504606846976)
+      made_stopped =
+          made_back n (at_of from) (held_of from) (steps_of from) (depth_of from) l place_small held_small (omega (arith, few)) depth_small stopped_is
 
-    pub opens_onward : at_of from + 1 ≤ 65535 → opened_of (record { bits = from.bits + 1 }) ≡ Passed (at_of from + 1) (held_of from) (steps_of from) (depth_of from)
-    opens_onward l =
-        let e : from.bits + 1 ≡ bits_of 0 (at_of from + 1) (held_of from) (steps_of from) (depth_of from) = omega (arith, whole) in
-        as_packed e
-        ∙ opens_passed 0 (at_of from + 1) (held_of from) (steps_of from) (depth_of from) (omega arith) l held_small (omega (arith, few)) depth_small refl
+    pub opens_stopped : (stop : Stop) {n : ℕ} → n ≡ number_of stop → (r : Packed) → r.bits ≡ from.bits + n * 1152921504606846976
+        → opened_of r ≡ Refused stop (at_of from) (steps_of from) (depth_of from)
+    opens_stopped stop {n} i r e =
+        let l : n < 16 = omega (arith, number_range stop) in
+        opens_stop n (at_of from) (held_of from) (steps_of from) (depth_of from) l place_small held_small (omega (arith, few)) depth_small r (stopped_is e l) stop i
 
-    pub opens_lost : opened_of (record { bits = from.bits / 33554432 * 33554432 + 1152921504606846976 }) ≡ Failed (steps_of from) (depth_of from)
-    opens_lost =
-        let e : from.bits / 33554432 * 33554432 + 1152921504606846976 ≡ bits_of 1 0 0 (steps_of from) (depth_of from) = omega (arith, tally_whole) in
-        as_packed e
-        ∙ opens_failed 1 0 0 (steps_of from) (depth_of from) (omega arith) (omega arith) (omega arith) (omega (arith, few)) depth_small refl
+    pub opens_onward : at_of from + 1 ≤ 65535 → (r : Packed) → r.bits ≡ from.bits + 1
+        → opened_of r ≡ Passed (at_of from + 1) (held_of from) (steps_of from) (depth_of from)
+    opens_onward l r e =
+        let i : r.bits ≡ packed 0 (at_of from + 1) (held_of from) (steps_of from) (depth_of from) = omega (arith, whole) in
+        opens_passed 0 (at_of from + 1) (held_of from) (steps_of from) (depth_of from) (omega arith) l held_small (omega (arith, few)) depth_small r i refl
+
+    pub opens_lost : (r : Packed) → r.bits ≡ from.bits / 33554432 * 33554432 + 1152921504606846976 → opened_of r ≡ Failed (steps_of from) (depth_of from)
+    opens_lost r e =
+        let i : r.bits ≡ packed 1 0 0 (steps_of from) (depth_of from) = omega (arith, tally_whole) in
+        opens_failed 1 0 0 (steps_of from) (depth_of from) (omega arith) (omega arith) (omega arith) (omega (arith, few)) depth_small r i refl
+
+-- What a number is opened to has the number's kind, each kind that there is.
+pub opens_kind : (r : Packed) → kind_of (opened_of r) ≡ r.bits / 1152921504606846976
+unfolding opened_of
+opens_kind r = go (ltb r.bits 1152921504606846976) refl (ltb r.bits 2305843009213693952) refl
+  where
+    go : (b : Bool) → ltb r.bits 1152921504606846976 ≡ b → (c : Bool) → ltb r.bits 2305843009213693952 ≡ c
+        → kind_of (pick b (Passed (at_of r) (held_of r) (steps_of r) (depth_of r)) (pick c (Failed (r.bits / 17179869184 % 67108864) (depth_of r))
+        (Refused (stop_of (r.bits / 1152921504606846976)) (at_of r) (r.bits / 17179869184 % 67108864) (depth_of r)))) ≡ r.bits / 1152921504606846976
+    go true e c f =
+        omega (arith, ltb-true r.bits 1152921504606846976 e, div-add-mod' r.bits 1152921504606846976, mod-lt r.bits {m = 1152921504606846976} (omega arith))
+    go false e true f =
+        omega (
+          arith,
+          ltb-false r.bits 1152921504606846976 e,
+          ltb-true r.bits 2305843009213693952 f,
+          div-add-mod' r.bits 1152921504606846976,
+          mod-lt r.bits {m = 1152921504606846976} (omega arith),
+        )
+    go false e false f =
+        number_back (r.bits / 1152921504606846976) r.made
+        (omega (arith, ltb-false r.bits 2305843009213693952 f, div-add-mod' r.bits 1152921504606846976, mod-lt r.bits {m = 1152921504606846976} (omega arith)))
 
 -- What passed has the parts that it is opened to.
 pub has_parts : (r : Packed) {a h s d : ℕ} → opened_of r ≡ Passed a h s d → (a ≡ at_of r) × (h ≡ held_of r) × (s ≡ steps_of r) × (d ≡ depth_of r)

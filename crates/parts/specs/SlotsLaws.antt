@@ -22,6 +22,7 @@ module _ (table low : ℕ) (slots : List ℕ) where
 
   -- The search from `held` down has come to `from`.
   pub record Sought (held from : ℕ) : Type 0 where
+    pub on : from ≤ held
     pub is : latest_of table low held slots ≡ latest_of table low from slots
 
   pub latest_step :
@@ -37,7 +38,8 @@ module _ (table low : ℕ) (slots : List ℕ) where
     sought_here e = sym (s.is ∙ latest_step from h ∙ rw (eq-eqb (get_or slots ((from - 1) * 3) 0) table e))
 
     pub sought_on : (get_or slots ((from - 1) * 3) 0 ≡ table → ⊥) → Sought held (from - 1)
-    sought_on e = record { is = s.is ∙ latest_step from h ∙ rw (ne_eqb (get_or slots ((from - 1) * 3) 0) table e) }
+    sought_on e =
+        record { on = omega (arith, s.on); is = s.is ∙ latest_step from h ∙ rw (ne_eqb (get_or slots ((from - 1) * 3) 0) table e) }
 
 -- ## Symbols and stores
 

@@ -1,7 +1,7 @@
 // What an expression comes to, and what it starts from, in one number.
-ghost use Rattle.std.specs.Prelude.{◌≡◌, true, ◌+◌, ◌≤◌, ◌<◌};
+ghost use Rattle.std.specs.Prelude.{◌≡◌, true, ◌+◌, ◌/◌, ◌≤◌, ◌<◌};
 ghost use Rattle.format.specs.Reading.{pick};
-ghost use Rattle.parts.specs.Packed.{packed, number_of, stop_of, at_of, held_of, steps_of, depth_of, opened_of};
+ghost use Rattle.parts.specs.Made.{Made};
 
 // What stops a run: the step limit, the depth limit, no room for a symbol, or a round that consumed nothing.
 #[derive(Clone, Copy, PartialEq, Eq, Debug)]
@@ -13,6 +13,8 @@ pub enum Stop {
 }
 
 impl Stop {
+    ghost use Rattle.parts.specs.Packed.{number_of, stop_of};
+
     // Its number in 01's table of refusals.
     pub fn number(self) -> u32
         ensures { result ≡ number_of self }
@@ -61,46 +63,53 @@ pub enum Outcome {
 }
 
 // An outcome in one number, which takes one register: place in 16 bits, symbols held in 9, depth in 9, steps in 26, kind above. A passed outcome is
-// what the next expression starts from.
-#[derive(Clone, Copy)]
+// what the next expression starts from. No other kind is made than 0, which passed, 1, which failed, and 12 to 15, the numbers of what stops a run.
+#[derive(Clone, Copy, PartialEq, Eq, Debug)]
 pub struct Packed {
-    pub bits: u64,
+    bits: u64,
+    pub ghost made: { Made (bits / 1152921504606846976) },
 }
 
 impl Packed {
+    ghost use Rattle.parts.specs.Packed.{packed, at_of, held_of, steps_of, depth_of, opened_of};
+
     // The parts of an outcome in one number. The kind is the highest part of it: 0, 1 or the number of what stopped the run.
-    fn shut(kind: u32, at: u32, held: u32, steps: u32, depth: u32) -> Packed
+    fn shut(kind: u32, at: u32, held: u32, steps: u32, depth: u32) -> u64
         requires { (kind < 16) × (at ≤ 65535) × (held ≤ 256) × (steps ≤ 1000000) × (depth ≤ 256) }
         ensures { result ≡ packed kind at held steps depth }
     {
-        Packed {
-            bits: u64::from(at)
-                + u64::from(held) * 65536
-                + u64::from(depth) * 33554432
-                + u64::from(steps) * 17179869184
-                + u64::from(kind) * 1152921504606846976,
-        }
+        u64::from(at)
+            + u64::from(held) * 65536
+            + u64::from(depth) * 33554432
+            + u64::from(steps) * 17179869184
+            + u64::from(kind) * 1152921504606846976
     }
 
     pub fn passed(at: u32, held: u32, steps: u32, depth: u32) -> Packed
         requires { (at ≤ 65535) × (held ≤ 256) × (steps ≤ 1000000) × (depth ≤ 256) }
         ensures { opened_of result ≡ Outcome.Passed at held steps depth }
     {
-        Packed::shut(0, at, held, steps, depth)
+        Packed {
+            bits: Packed::shut(0, at, held, steps, depth),
+        }
     }
 
     pub fn failed(steps: u32, depth: u32) -> Packed
         requires { (steps ≤ 1000000) × (depth ≤ 256) }
         ensures { opened_of result ≡ Outcome.Failed steps depth }
     {
-        Packed::shut(1, 0, 0, steps, depth)
+        Packed {
+            bits: Packed::shut(1, 0, 0, steps, depth),
+        }
     }
 
     pub fn refused(stop: Stop, place: u32, steps: u32, depth: u32) -> Packed
         requires { (place ≤ 65535) × (steps ≤ 1000000) × (depth ≤ 256) }
         ensures { opened_of result ≡ Outcome.Refused stop place steps depth }
     {
-        Packed::shut(stop.number(), place, 0, steps, depth)
+        Packed {
+            bits: Packed::shut(stop.number(), place, 0, steps, depth),
+        }
     }
 
     // What it is opened to.

@@ -4,7 +4,7 @@ ghost use Rattle.std.specs.Prelude.{◌≡◌, ◌+◌, ◌*◌, ◌≤◌, leng
 ghost use Rattle.parts.specs.Slots.{symbol_at, meant, putting, latest_of, Closes};
 
 // A held symbol: its table, and where in the input it starts and ends.
-#[derive(Clone, Copy)]
+#[derive(Clone, Copy, PartialEq, Eq, Debug)]
 pub struct Symbol {
     pub table: u32,
     pub start: u32,

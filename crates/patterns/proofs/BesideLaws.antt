@@ -6,7 +6,7 @@ use mathlib.Core.List.{List}
 use native.Mathlib.Omega.{arith}
 use lib.ListN.{length}
 use Rattle.format.specs.Reading.{pick}
-use Rattle.notation.specs.Stream.{◌▸◌, want}
+use Rattle.notation.specs.Stream.{want}
 use Rattle.notation.specs.Symbols.{same_symbol}
 use Rattle.lexer.specs.declared.token.Token.{Token}
 use Rattle.lexer.specs.declared.token.Opener.TheVariants as Opener
@@ -15,10 +15,11 @@ use Rattle.walker.specs.declared.act.Open.{Open}
 use Rattle.walker.specs.declared.walk.Symbol.{Symbol}
 use Rattle.walker.specs.declared.walk.Walk.{Walk}
 use Rattle.walker.specs.declared.walk.Step.{Step}
-use Rattle.walker.specs.Walks.{rest, Walks, to_go, symbol_at, Taken, Nexts, Begins}
+use Rattle.walker.specs.Walks.{rest, Walks, to_go, symbol_at, Nexts, Begins}
+use Rattle.walker.specs.SymbolLaws.{taken_shown}
 use Rattle.patterns.specs.Bodies.{same_streams, defines_on, defs_on}
 use Rattle.patterns.specs.Compared.{stream_at}
-use Rattle.patterns.proofs.ContentsLaws.{symbols_differ}
+use Rattle.patterns.proofs.ContentsLaws.{symbols_agree}
 
 -- ## A symbol
 
@@ -86,34 +87,28 @@ module _ {text : List ℕ} {left left' right right' : List Open} {v w : Walk} wh
 
 module _ {text : List ℕ} {left left' right right' : List Open} {v w x y : Walk} {s r : Symbol} {t u : Token}
     (A : Nexts text left left' v (Step.Symbol s t x)) (B : Nexts text right right' w (Step.Symbol r u y)) where
-  -- Symbols that differ: these are not the same.
-  pub others_differ : (s ≡ r → ⊥) → same_streams (rest text left v) (rest text right w) ≡ false
+  -- Each has put out a symbol.
+  one_each :
+      same_streams (rest text left v) (rest text right w)
+      ≡ pick (same_symbol (symbol_at text t s) (symbol_at text u r)) (same_streams (rest text left' x) (rest text right' y)) false
   unfolding same_streams
-  others_differ n = ap₂ same_streams A.nexts.goes B.nexts.goes ∙ rw (symbols_differ text t u s r A.nexts.taken B.nexts.taken n)
+  one_each = ap₂ same_streams A.nexts.goes B.nexts.goes
 
-  -- Each has put out the same symbol.
-  module _ (e : s ≡ r) where
-    pub this_taken : Taken text u s
-    this_taken = rw e B.nexts.taken
+  -- They are not the same.
+  pub contents_differ : same_symbol (symbol_at text t s) (symbol_at text u r) ≡ false → same_streams (rest text left v) (rest text right w) ≡ false
+  contents_differ f = one_each ∙ rw f
 
-    one_each :
-        same_streams (rest text left v) (rest text right w)
-        ≡ pick (same_symbol (symbol_at text t s) (symbol_at text u s)) (same_streams (rest text left' x) (rest text right' y)) false
-    unfolding same_streams
-    one_each = ap₂ same_streams A.nexts.goes (B.nexts.goes ∙ ap (λ k. symbol_at text u k ▸ rest text right' y) (sym e))
+  -- They are.
+  module _ (f : same_symbol (symbol_at text t s) (symbol_at text u r) ≡ true) where
+    one_same : same_streams (rest text left v) (rest text right w) ≡ same_streams (rest text left' x) (rest text right' y)
+    one_same = one_each ∙ rw f
 
-    pub contents_differ : same_symbol (symbol_at text t s) (symbol_at text u s) ≡ false → same_streams (rest text left v) (rest text right w) ≡ false
-    contents_differ f = one_each ∙ rw f
-
-    one_same :
-        same_symbol (symbol_at text t s) (symbol_at text u s) ≡ true
-        → same_streams (rest text left v) (rest text right w) ≡ same_streams (rest text left' x) (rest text right' y)
-    one_same f = one_each ∙ rw f
+    one_symbol : s ≡ r
+    one_symbol = symbols_agree text t u s r (taken_shown text t s A.nexts.taken) (taken_shown text u r B.nexts.taken) f
 
     one_defines : defs_on (rest text right w) ≡ one_def s + defs_on (rest text right' y)
     unfolding defs_on
-    one_defines =
-        ap defs_on B.nexts.goes ∙ ap (λ d. d + defs_on (rest text right' y)) (symbol_defines text u r ∙ ap one_def (sym e))
+    one_defines = ap defs_on B.nexts.goes ∙ ap (λ d. d + defs_on (rest text right' y)) (symbol_defines text u r ∙ ap one_def (sym one_symbol))
 
 -- ## All steps
 
@@ -143,14 +138,14 @@ module _ {text : List ℕ} {p q : ℕ} {v w : Walk} where
   }
 
   module _ {left right left' right' : List Open} {defs : ℕ} {s r : Symbol} {t u : Token} {x y : Walk} (S : Beside text p q left right v w defs)
-      (A : Nexts text left left' v (Step.Symbol s t x)) (B : Nexts text right right' w (Step.Symbol r u y)) (e : s ≡ r)
-      (f : same_symbol (symbol_at text t s) (symbol_at text u s) ≡ true) where
+      (A : Nexts text left left' v (Step.Symbol s t x)) (B : Nexts text right right' w (Step.Symbol r u y))
+      (f : same_symbol (symbol_at text t s) (symbol_at text u r) ≡ true) where
     pub beside_more : Beside text p q left' right' x y (defs + one_def s)
     beside_more = record {
       first = A.nexts.walks;
       second = B.nexts.walks;
-      streams = sym (one_same A B e f) ∙ S.streams;
-      count = omega (arith, one_defines A B e, S.count);
+      streams = sym (one_same A B f) ∙ S.streams;
+      count = omega (arith, one_defines A B f, S.count);
       few = omega (arith, one_most s, A.nexts.falls, S.few);
       left_long = A.long ∙ S.left_long;
       right_long = B.long ∙ S.right_long;

@@ -9,6 +9,7 @@ use borrow.Author.Tests.{eq-eqb, eqb-true}
 use Rattle.format.specs.Reading.{pick}
 use Rattle.notation.specs.Tree.{Name, Part, any}
 use Rattle.notation.specs.Lexer.{same}
+use Rattle.notation.specs.LexicalText.{no_way}
 use Rattle.notation.specs.LexicalToken.{same_true}
 use Rattle.notation.specs.At.{name_at, quoted_of, parts_of, class_of}
 use Rattle.notation.specs.Stream.{stands}
@@ -27,7 +28,7 @@ use Rattle.lexer.specs.declared.token.Opener.{Opener}
 use Rattle.lexer.specs.declared.token.Suffix.TheVariants as Suffix
 use Rattle.lexer.specs.Meant.{leaf_at, opener_at}
 use Rattle.walker.specs.declared.walk.Symbol.{Symbol}
-use Rattle.walker.specs.Walks.{symbol_at, Taken}
+use Rattle.walker.specs.Walks.{symbol_at, Shown}
 use Rattle.walker.specs.SymbolLaws.{number, symbol_kind}
 
 -- ## Two names
@@ -142,7 +143,7 @@ is_numbered text t (Symbol.After Suffix.Star) = refl
 is_numbered text t (Symbol.After Suffix.Plus) = refl
 is_numbered text t s = refl
 
-module _ (text : List ℕ) (t u : Token) (s r : Symbol) (T : Taken text t s) (U : Taken text u r) where
+module _ (text : List ℕ) (t u : Token) (s r : Symbol) (T : Shown text t s) (U : Shown text u r) where
   same_number : kind (symbol_at text t s) ≡ kind (symbol_at text u r) → number s ≡ number r
   same_number e = sym (symbol_kind text t s T) ∙ e ∙ symbol_kind text u r U
 
@@ -150,9 +151,9 @@ module _ (text : List ℕ) (t u : Token) (s r : Symbol) (T : Taken text t s) (U 
   same_one e f =
       sym (is_numbered text t s) ∙ ap₂ (λ n c. get_or (by_number (truth_in n c)) n Symbol.Head) (same_number e) f ∙ is_numbered text u r
 
-  -- They are not the same.
-  pub symbols_differ : (s ≡ r → ⊥) → same_symbol (symbol_at text t s) (symbol_at text u r) ≡ false
-  symbols_differ n = go (eqb (kind x) (kind y)) (same (contents x) (contents y)) refl refl
+  -- Two that stand for the same are one; so two that differ do not.
+  pub symbols_agree : same_symbol (symbol_at text t s) (symbol_at text u r) ≡ true → s ≡ r
+  symbols_agree = go (eqb (kind x) (kind y)) (same (contents x) (contents y)) refl refl
     where
       x : S.Symbol
       x = symbol_at text t s
@@ -160,7 +161,14 @@ module _ (text : List ℕ) (t u : Token) (s r : Symbol) (T : Taken text t s) (U 
       y : S.Symbol
       y = symbol_at text u r
 
-      go : (b c : Bool) → eqb (kind x) (kind y) ≡ b → same (contents x) (contents y) ≡ c → same_symbol x y ≡ false
-      go false c p q = rw p
-      go true false p q = rw (p, q)
-      go true true p q = absurd (n (same_one (eqb-true (kind x) (kind y) p) (same_true (contents x) (contents y) q)))
+      go : (b c : Bool) → eqb (kind x) (kind y) ≡ b → same (contents x) (contents y) ≡ c → pick b c false ≡ true → s ≡ r
+      go false c p q e = no_way (cc)
+      go true false p q e = no_way (cc)
+      go true true p q e = same_one (eqb-true (kind x) (kind y) p) (same_true (contents x) (contents y) q)
+
+  pub symbols_differ : (s ≡ r → ⊥) → same_symbol (symbol_at text t s) (symbol_at text u r) ≡ false
+  symbols_differ n = go (same_symbol (symbol_at text t s) (symbol_at text u r)) refl
+    where
+      go : (b : Bool) → same_symbol (symbol_at text t s) (symbol_at text u r) ≡ b → b ≡ false
+      go false e = refl
+      go true e = absurd (n (symbols_agree e))

@@ -14,7 +14,6 @@ use Rattle.notation.specs.Places.{name_in, is_def, only, numbered}
 use Rattle.index.specs.Listed.{names_at, Ascending}
 use Rattle.lexer.specs.declared.token.Token.{Token}
 use Rattle.lexer.specs.declared.token.Kind.{Kind}
-use Rattle.lexer.specs.declared.token.Kind.TheVariants as Kind
 use Rattle.lexer.specs.declared.token.Opener.TheVariants as Opener
 use Rattle.lexer.specs.Meant.{placed, Lexed}
 use Rattle.patterns.specs.declared.one.Pass.{Pass}

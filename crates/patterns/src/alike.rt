@@ -39,7 +39,7 @@ pub fn alike(
                     walk: beside,
                 },
             ) => {
-                if symbol != other || !same_contents(text, symbol, token, twin) {
+                if !same_contents(text, symbol, token, other, twin) {
                     return None;
                 }
                 if symbol == Symbol::Opens(Opener::Def) {

@@ -1,11 +1,11 @@
-// The contents of two symbols of one kind, by the tokens that put them out.
+// Two symbols, by the tokens that put them out.
 ghost use Rattle.std.specs.Prelude.{◌≡◌};
 ghost use Rattle.notation.specs.Lexer.{same};
 ghost use Rattle.notation.specs.At.{name_at};
 ghost use Rattle.notation.specs.Stream.{stands};
 ghost use Rattle.notation.specs.Symbols.{same_symbol};
 ghost use Rattle.lexer.specs.Meant.{leaf_at};
-ghost use Rattle.walker.specs.Walks.{symbol_at, Taken};
+ghost use Rattle.walker.specs.Walks.{symbol_at, Shown};
 ghost use Rattle.patterns.specs.Compared.{TakenLeaf};
 
 use chars::class::same_class;
@@ -34,11 +34,15 @@ fn same_leaf(text: &[u8], leaf: Leaf, a: Token, b: Token) -> bool
     }
 }
 
-// Whether a symbol has the same contents by two tokens.
-pub fn same_contents(text: &[u8], symbol: Symbol, a: Token, b: Token) -> bool
-    requires { Taken text.now a symbol × Taken text.now b symbol }
-    ensures { result ≡ same_symbol (symbol_at text.now a symbol) (symbol_at text.now b symbol) }
+// Whether two symbols are of one kind and have the same contents by their tokens: those of quoted text or of a class, a truth and a name, a name, or none.
+#[tactic(auto, using(crate::proofs::ContentsLaws::same_plain))]
+pub fn same_contents(text: &[u8], symbol: Symbol, a: Token, other: Symbol, b: Token) -> bool
+    requires { Shown text.now a symbol × Shown text.now b other }
+    ensures { result ≡ same_symbol (symbol_at text.now a symbol) (symbol_at text.now b other) }
 {
+    if symbol != other {
+        return false;
+    }
     match symbol {
         Symbol::Head | Symbol::Opens(_) => same_name(text, a.name, b.name),
         Symbol::Leaf(leaf) => same_leaf(text, leaf, a, b),

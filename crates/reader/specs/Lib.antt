@@ -1,3 +1,4 @@
--- What the reader gives, in terms of the format.
+-- What the reader gives, in terms of the format, and the words for each fault.
 pub mod Meant
 pub mod Unique
+pub mod Words

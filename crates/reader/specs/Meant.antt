@@ -30,7 +30,7 @@ reading (Ok n) = got n.value n.next
 reading (Err f) = fault (number_of f.fault) f.place
 
 -- Where a reader stands after a reading at `at`: behind what was read, or where it stood if that was refused.
-abbrev pub behind : Reading ℕ → (at : ℕ) → ℕ
+abbrev pub behind : {A : Type 0} → Reading A → (at : ℕ) → ℕ
 behind (got value next) at = next
 behind (fault number place) at = at
 
@@ -38,7 +38,9 @@ behind (fault number place) at = at
 abbrev pub moved : Reader → Reader
 moved r = record { image = r.image; at = behind (number_at r.image.now r.at) r.at }
 
--- What a function that reads by a reader gives: what `p` reads at the reader's place. The reader then stands behind it, over the same image.
+-- What a function that reads by a reader gives: what `p` reads at the reader's place. The reader then stands behind it, or where it stood if that was
+-- refused, over the same image.
 pub record Reads {A : Type 0} (p : ℕ → Reading A) (before after : Reader) (r : Result A Refusal) : Type 0 where
   pub result : told r after.at ≡ p before.at
+  pub stands : after.at ≡ behind (p before.at) before.at
   pub image : after.image ≡ before.image

@@ -9,7 +9,7 @@ use Rattle.reader.specs.declared.refusal.Refusal.{Refusal}
 use Rattle.reader.specs.declared.reader.Reader.{Reader}
 use Rattle.format.specs.Reading.{Reading}
 use Rattle.format.specs.Number.{number_at}
-use Rattle.reader.specs.Meant.{number_of, told, reading, moved, behind}
+use Rattle.reader.specs.Meant.{number_of, told, reading, moved, behind, Reads}
 
 -- The faults in the order of their numbers.
 abbrev faults : List Fault
@@ -65,12 +65,21 @@ one_told {A} r s at at' e f = same r s (e ∙ sym f)
         let number : number_of f.fault ≡ number_of g.fault = cc in let place : f.place ≡ g.place = cc in
         ap Err (one_refusal f g number place)
 
+-- A reader is its image and its place.
+pub same_reader : {r s : Reader} → r.image ≡ s.image → r.at ≡ s.at → r ≡ s
+same_reader image at = λ i. record { image = image i; at = at i }
+
+-- A function that reads by a reader promises `Reads`: what it gives, and the reader after it, after a refusal too.
+pub one_read :
+    {A : Type 0} {p : ℕ → Reading A} {before after after' : Reader} {r r' : Result A Refusal} → Reads p before after r → Reads p before after' r'
+    → (r ≡ r') × (after ≡ after')
+one_read {after = after} {after' = after'} {r = r} {r' = r'} f g =
+    (one_told r r' after.at after'.at f.result g.result, same_reader (f.image ∙ sym g.image) (f.stands ∙ sym g.stands))
+
 -- `over`: the reader that is made, with the slice that it holds.
 pub one_reader :
     (image : Bor (List ℕ)) (at : ℕ) (r r' : Reader) → (r.image ≡ image) × (r.at ≡ at) → (r'.image ≡ image) × (r'.at ≡ at) → r ≡ r'
-one_reader image at r r' e f =
-    let same : r.image ≡ r'.image = e.0 ∙ sym f.0 in let place : r.at ≡ r'.at = e.1 ∙ sym f.1 in
-    λ i. record { image = same i; at = place i }
+one_reader image at r r' e f = same_reader (e.0 ∙ sym f.0) (e.1 ∙ sym f.1)
 
 -- `next`: what it hands out, and the reader after it, after a refusal too.
 pub one_next :

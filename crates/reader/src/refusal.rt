@@ -1,6 +1,7 @@
 // What may be wrong with an image, and where it is.
-ghost use Rattle.std.specs.Prelude.{◌≡◌};
+ghost use Rattle.std.specs.Prelude.{◌≡◌, Some};
 ghost use Rattle.reader.specs.Meant.{number_of};
+ghost use Rattle.reader.specs.Words.{words_of};
 
 use std::fmt;
 
@@ -43,6 +44,8 @@ impl Fault {
 }
 
 impl fmt::Display for Fault {
+    ghost output = { λ fault. Some (words_of fault) };
+
     fn fmt<W: fmt::Write>(&self, f: &mut fmt::Formatter<W>) -> fmt::Result {
         f.write_str(match self {
             Fault::TooLong => "the image is over 16,384 bytes",

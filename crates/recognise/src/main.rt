@@ -6,5 +6,10 @@ use std::io;
 
 fn main(rt: HostRuntime) -> io::Result<()> {
     let err = rt.stderr();
-    office::program(&rt, &err, "recognise [RULES TEXT]", Listing::Answer)
+    office::program(
+        &rt,
+        &err,
+        b"usage: recognise [RULES TEXT]\n",
+        Listing::Answer,
+    )
 }

@@ -31,17 +31,21 @@ pub record Walks (text : List ℕ) (w : Walk) : Type 0 where
 abbrev pub to_go : List ℕ → Walk → ℕ
 to_go text w = 3 * (length text - w.token.start) + w.height
 
+-- What a symbol stands for that holds nothing, as all do but a production's head, leaves and what opens an operator.
+abbrev pub plain_of : Symbol → N.Symbol
+plain_of Closes = leaves
+plain_of And = front and
+plain_of Not = front not
+plain_of (After s) = back (suffix_of s)
+plain_of Sequence = joins sequence
+plain_of s = joins choice
+
 -- What a symbol stands for, by the token that was taken for it.
 abbrev pub symbol_at : List ℕ → Token → Symbol → N.Symbol
 symbol_at text t Head = named (name_at text t.name)
 symbol_at text t (Leaf l) = stands (leaf_at text t l)
 symbol_at text t (Opens o) = enters (opener_at text t o)
-symbol_at text t Closes = leaves
-symbol_at text t And = front and
-symbol_at text t Not = front not
-symbol_at text t (After s) = back (suffix_of s)
-symbol_at text t Sequence = joins sequence
-symbol_at text t Choice = joins choice
+symbol_at text t s = plain_of s
 
 -- ## What a step promises
 
@@ -62,6 +66,11 @@ Taken text t Not = Unit
 Taken text t (After s) = Took text t (Kind.After s)
 Taken text t Sequence = Unit
 Taken text t Choice = Unit
+
+-- A symbol was put out: if it is a head, a leaf, what opens an operator or what closes one, this token was taken for it. Of the others' tokens nothing is said.
+abbrev pub Shown : List ℕ → Token → Symbol → Type 0
+Shown text t (After s) = Unit
+Shown text t s = Taken text t s
 
 -- The walk goes on behind the token that was taken.
 abbrev pub BehindBy : List ℕ → Token → Symbol → Walk → Type 0

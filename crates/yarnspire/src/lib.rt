@@ -22,6 +22,7 @@ use run::{allowed, run};
 pub use written::{compile, yarnspire_compile};
 
 // Says whether an image is good, or its first fault and where that is.
+#[tactic(auto, using(crate::proofs::CheckLaws::said))]
 pub fn check(image: &[u8]) -> Result<(), ImageRefusal>
     ensures { Checks image.now result }
 {
@@ -120,7 +121,7 @@ fn write(
 }
 
 // An answer, and the accepted front of the input as a part of the caller's own bytes: empty where nothing is accepted. (The promise fixes the bytes
-// that are handed back; that they lie at the input's front is seen in the last line of `accepted_text` alone.)
+// that are handed back; that they lie at the input's front is seen in the body of `accepted_text` alone.)
 #[derive(Clone, Copy)]
 pub struct Recognition<'a> {
     pub answer: Answer,

@@ -6,5 +6,5 @@ use Rattle.image.proofs.walk.fill_nodes.Given as goal
 
 abbrev pub invariant-loop-own : goal.invariant-loop-own
 invariant-loop-own l =
-    Filling (word_at l.initial.reader.image.now l.head.tables l.head.conditions l.head.nodes) 0 l.head.nodes l.initial.reader.at l.initial.code l.code l.own l.reader.at
-    × (l.reader.image ≡ l.initial.reader.image)
+    Filling (word_at l.initial.reader.image.now l.head.tables l.head.conditions l.head.nodes) 0 l.head.nodes l.initial.reader.at l.initial.code l.code l.own l.ahead.at
+    × (l.ahead.image ≡ l.initial.reader.image)

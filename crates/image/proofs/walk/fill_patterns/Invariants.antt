@@ -6,5 +6,5 @@ use Rattle.image.proofs.walk.fill_patterns.Given as goal
 
 abbrev pub invariant-loop-t : goal.invariant-loop-t
 invariant-loop-t l =
-    Filling (λ t. bounded l.initial.reader.image.now 7 0 l.head.nodes) 512 l.head.tables l.initial.reader.at l.initial.code l.code l.t l.reader.at
-    × (l.reader.image ≡ l.initial.reader.image)
+    Filling (λ t. bounded l.initial.reader.image.now 7 0 l.head.nodes) 512 l.head.tables l.initial.reader.at l.initial.code l.code l.t l.ahead.at
+    × (l.ahead.image ≡ l.initial.reader.image)

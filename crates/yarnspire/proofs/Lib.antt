@@ -1,0 +1,2 @@
+-- Laws that proofs cite by their functions' attributes.
+pub mod CheckLaws
