@@ -2,9 +2,9 @@
 use Rattle.std.proofs.Common.{ℕ, ◌+◌, ◌<◌, ◌≡◌, refl, ap, sym, subst, ◌∙◌, List, set, Result, Ok, Err, IsErrAnd}
 use Rattle.reader.specs.declared.reader.Reader.{Reader}
 use Rattle.reader.specs.declared.refusal.Refusal.{Refusal}
-use Rattle.reader.specs.Meant.{behind, Reads}
+use Rattle.reader.specs.Meant.{Reads, Gives, gives}
 use Rattle.format.specs.Reading.{Reading}
-use Rattle.image.specs.Filled.{Fills}
+use Rattle.image.specs.Filled.{Fills, Puts, fills_fault}
 use Rattle.image.specs.FilledLaws.{Filling, filling_more, filling_stops}
 
 -- What holds of a refusal holds of the result that a `?` hands on.
@@ -21,11 +21,16 @@ module _ (p : List ℕ → ℕ → ℕ → Reading ℕ) (to N : ℕ) {from middl
   one_more j is h r =
       (rw is (filling_more (p from.image.now) to N f.0 h (r.result ∙ ap (λ image. p image.now i middle.at) f.1)), r.image ∙ f.1)
 
-  -- One cannot be read: the reader that was lent stands where it stood.
+  -- One cannot be read.
   pub one_refused :
+      {after : Reader} {e : Refusal} {r : Result (Unit {0}) Refusal} → IsErrAnd r (λ x. x ≡ e) → i < N → Gives (p middle.image.now i) middle after (Err e)
+      → Puts (p from.image.now) to N from after before now r
+  one_refused {after} q h r =
+      let s = filling_stops (p from.image.now) to N f.0 h (r.result ∙ ap (λ image. p image.now i middle.at) f.1) in
+      err_is (Puts (p from.image.now) to N from after before now) q (record { result = s.0; image = r.image ∙ f.1; array = s.1 })
+
+  -- The reader that was lent is left where it stood.
+  pub one_stops :
       {after : Reader} {e : Refusal} {r : Result (Unit {0}) Refusal} → IsErrAnd r (λ x. x ≡ e) → i < N → Reads (p middle.image.now i) middle after (Err e)
       → Fills (p from.image.now) to N from from before now r
-  one_refused q h r =
-      let s = filling_stops (p from.image.now) to N f.0 h (r.result ∙ ap (λ image. p image.now i middle.at) f.1) in
-      err_is (Fills (p from.image.now) to N from from before now) q
-      (record { result = s.0; stands = ap (λ x. behind x from.at) s.0; image = refl; array = s.1 })
+  one_stops {e = e} q h r = err_is (Fills (p from.image.now) to N from from before now) q (fills_fault (one_refused {r = Err e} refl h (gives r)))

@@ -17,7 +17,7 @@ use Rattle.format.specs.Image.{bounded, kinds}
 use Rattle.format.specs.ImageLaws.{number_all, bit_back}
 use Rattle.image.specs.Word.{packed, switch, keep, word_at}
 use Rattle.image.specs.Shapes.{word1, switched, last_at, truth_of, one_at, two_at, range_at, switch_at, if_at, on_at, operands_at}
-use Rattle.reader.specs.Meant.{behind, Reads}
+use Rattle.reader.specs.Meant.{behind, Reads, Gives, gives, reads_got, reads_fault}
 use Rattle.image.specs.declared.head.Head.{Head}
 use Rattle.image.proofs.FillLaws.{err_is}
 
@@ -106,21 +106,28 @@ pub alike : {p q : ℕ → Reading ℕ} {before after : Reader} {r : Result ℕ 
 alike {before = before} o e = record { result = o.result ∙ e; stands = o.stands ∙ ap (λ x. behind x before.at) e; image = o.image }
 
 -- After a tag its operands are read, and the two together are the node.
-module _ (h : Head) (own tag : ℕ) {before middle : Reader} (t : Reads (bounded before.image.now 6 0 19) before middle (Ok tag)) where
-  whole :
-      operands_at middle.image.now h.tables h.conditions h.nodes own tag middle.at
-      ≡ word_at before.image.now h.tables h.conditions h.nodes own before.at
-  whole =
-      ap (λ i. operands_at i.now h.tables h.conditions h.nodes own tag middle.at) t.image
+pub tagged :
+    (h : Head) (own tag : ℕ) {before middle after : Reader} {r : Result ℕ Refusal} {p : ℕ → Reading ℕ}
+    → Gives (bounded before.image.now 6 0 19) before middle (Ok tag)
+    → Gives p middle after r
+    → p middle.at ≡ operands_at middle.image.now h.tables h.conditions h.nodes own tag middle.at
+    → Gives (word_at before.image.now h.tables h.conditions h.nodes own) before after r
+tagged h own tag {before} {middle} t o q = record {
+  result =
+      o.result
+      ∙ q
+      ∙ ap (λ i. operands_at i.now h.tables h.conditions h.nodes own tag middle.at) t.image
       ∙ onward (operands_at before.image.now h.tables h.conditions h.nodes own) t.result
-      ∙ word_of before.image.now h.tables h.conditions h.nodes own before.at
+      ∙ word_of before.image.now h.tables h.conditions h.nodes own before.at;
+  image = o.image ∙ t.image;
+}
 
-  pub tagged :
+module _ (h : Head) (own tag : ℕ) {before middle : Reader} (t : Reads (bounded before.image.now 6 0 19) before middle (Ok tag)) where
+  -- The operands are read.
+  pub tagged_read :
       {after : Reader} {w : ℕ} → Reads (operands_at middle.image.now h.tables h.conditions h.nodes own tag) middle after (Ok w)
       → Reads (word_at before.image.now h.tables h.conditions h.nodes own) before after (Ok w)
-  tagged o =
-      let is = o.result ∙ whole in
-      record { result = is; stands = ap (λ x. behind x before.at) is; image = o.image ∙ t.image }
+  tagged_read o = reads_got (tagged h own tag (gives t) (gives o) refl)
 
   -- Operands that are refused: the reader that was lent stands where it stood, in front of the tag.
   pub tagged_refused :
@@ -128,6 +135,5 @@ module _ (h : Head) (own tag : ℕ) {before middle : Reader} (t : Reads (bounded
       → Reads (operands_at middle.image.now h.tables h.conditions h.nodes own tag) middle after (Err e)
       → Reads (word_at before.image.now h.tables h.conditions h.nodes own) before before r
   tagged_refused q o =
-      let is = o.result ∙ whole in
       err_is (Reads (word_at before.image.now h.tables h.conditions h.nodes own) before before) q
-      (record { result = is; stands = ap (λ x. behind x before.at) is; image = refl })
+      (reads_fault (tagged h own tag (gives t) (gives o) refl))

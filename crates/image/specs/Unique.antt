@@ -14,7 +14,7 @@ use Rattle.image.specs.declared.node.Node.{Node}
 use Rattle.image.specs.declared.node.Span.{Span}
 use Rattle.image.specs.Word.{packed}
 use Rattle.image.specs.Node.{node_of, span_of}
-use Rattle.image.specs.Filled.{Fills, Loads}
+use Rattle.image.specs.Filled.{Fills, Puts, puts, Loads}
 use Rattle.image.specs.Meant.{heading, headed, Begins, loaded, checked, verdict}
 
 -- `bounded`, `word_at` and every function that reads operands promise `Reads`: `one_read` of `reader`.
@@ -58,12 +58,17 @@ pub one_beginning :
 one_beginning {after = after} {after' = after'} {r = r} {r' = r'} f g =
     ((one_header r r' after.at after'.at f.result g.result).0, same_reader (f.image ∙ sym g.image) (f.stands ∙ sym g.stands))
 
--- `fill_patterns` and `fill_nodes`: what is read, the reader after it and what the array holds, after a refusal too.
+-- `fill_patterns` and `fill_nodes`: what is read and what the array holds, wherever the reader stands after a refusal.
+pub one_put :
+    {p : ℕ → ℕ → Reading ℕ} {to k : ℕ} {from end end' : Reader} {before after after' : List ℕ} {r r' : Result (Unit {0}) Refusal}
+    → Puts p to k from end before after r → Puts p to k from end' before after' r' → (r ≡ r') × (after ≡ after')
+one_put {end = end} {end' = end'} {r = r} {r' = r'} f g = (one_told r r' end.at end'.at f.result g.result, f.array ∙ sym g.array)
+
+-- What is read, the reader after it and what the array holds, after a refusal too.
 pub one_filling :
     {p : ℕ → ℕ → Reading ℕ} {to k : ℕ} {from end end' : Reader} {before after after' : List ℕ} {r r' : Result (Unit {0}) Refusal}
     → Fills p to k from end before after r → Fills p to k from end' before after' r' → (r ≡ r') × (end ≡ end') × (after ≡ after')
-one_filling {end = end} {end' = end'} {r = r} {r' = r'} f g =
-    (one_told r r' end.at end'.at f.result g.result, same_reader (f.image ∙ sym g.image) (f.stands ∙ sym g.stands), f.array ∙ sym g.array)
+one_filling f g = let e = one_put (puts f) (puts g) in (e.0, same_reader (f.image ∙ sym g.image) (f.stands ∙ sym g.stands), e.1)
 
 -- `load`: what is said and what the array holds, after a refusal too.
 pub one_loading :

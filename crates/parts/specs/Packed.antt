@@ -34,12 +34,16 @@ depth_of r = r.bits / 33554432 % 512
 unfoldable pub steps_of : Packed → ℕ
 steps_of r = r.bits / 17179869184
 
--- By its kind, which is above 2 ^ 60: 0 passed, 1 failed, else the number of what stopped the run.
+-- By its kind, which is above 2 ^ 60: 0 passed, 1 failed, else the number of what stopped the run. (The kinds 2 to 11, which no outcome has, would be opened
+-- as 15 is.)
+abbrev pub opening : ℕ → Outcome
+opening n =
+    pick (ltb n 1152921504606846976) (Passed (n % 65536) (n / 65536 % 512) (n / 17179869184) (n / 33554432 % 512))
+    (pick (ltb n 2305843009213693952) (Failed (n / 17179869184 % 67108864) (n / 33554432 % 512))
+    (Refused (stop_of (n / 1152921504606846976)) (n % 65536) (n / 17179869184 % 67108864) (n / 33554432 % 512)))
+
 unfoldable pub opened_of : Packed → Outcome
-opened_of r =
-    pick (ltb r.bits 1152921504606846976) (Passed (at_of r) (held_of r) (steps_of r) (depth_of r))
-    (pick (ltb r.bits 2305843009213693952) (Failed (r.bits / 17179869184 % 67108864) (depth_of r))
-    (Refused (stop_of (r.bits / 1152921504606846976)) (at_of r) (r.bits / 17179869184 % 67108864) (depth_of r)))
+opened_of r = opening r.bits
 
 -- The kind that an outcome has in one number.
 abbrev pub kind_of : Outcome → ℕ

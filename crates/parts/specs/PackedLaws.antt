@@ -10,7 +10,7 @@ use Rattle.parts.specs.declared.outcome.Stop.{Stop}
 use Rattle.parts.specs.declared.outcome.Stop.TheVariants.{Steps, Depth, Room, Round}
 use Rattle.parts.specs.declared.outcome.Packed.{Packed}
 use Rattle.parts.specs.Made.{Made}
-use Rattle.parts.specs.Packed.{number_of, stop_of, packed, at_of, held_of, steps_of, depth_of, opened_of, kind_of}
+use Rattle.parts.specs.Packed.{number_of, stop_of, packed, at_of, held_of, steps_of, depth_of, opening, opened_of, kind_of}
 
 -- ## What stops a run, and its number
 
@@ -57,30 +57,16 @@ made_small bits l =
 -- The bits of a number n from 2 ^ k on, m of them: the quotient and the rest, as omega reads them.
 module _ (kind at held steps depth : ℕ) (hk : kind < 16) (ha : at ≤ 65535) (hh : held ≤ 511) (hs : steps < 67108864) (hd : depth ≤ 511) where
   module _ {bits : ℕ} (shut : bits ≡ packed kind at held steps depth) where
-    -- The kind that was packed is the kind that is read, whichever it was.
-    pub kind_back : bits / 1152921504606846976 ≡ kind
-    kind_back = omega (arith, div-add-mod' bits 1152921504606846976, mod-lt bits {m = 1152921504606846976} (omega arith))
+    place_rest : bits % 65536 ≡ at
+    place_rest = omega (arith, div-add-mod' bits 65536, mod-lt bits {m = 65536} (omega arith))
 
-    pub made_back : Made kind → Made (bits / 1152921504606846976)
-    made_back m = rw kind_back m
-
-  module _ (number : Packed) (shut : number.bits ≡ packed kind at held steps depth) where
-    abbrev bits : ℕ
-    bits = number.bits
-
-    place_back : at_of number ≡ at
-    unfolding at_of
-    place_back = omega (arith, div-add-mod' bits 65536, mod-lt bits {m = 65536} (omega arith))
-
-    held_back : held_of number ≡ held
-    unfolding held_of
-    held_back =
+    held_rest : bits / 65536 % 512 ≡ held
+    held_rest =
         let q = bits / 65536 in
         omega (arith, div-add-mod' bits 65536, mod-lt bits {m = 65536} (omega arith), div-add-mod' q 512, mod-lt q {m = 512} (omega arith))
 
-    depth_back : depth_of number ≡ depth
-    unfolding depth_of
-    depth_back =
+    depth_rest : bits / 33554432 % 512 ≡ depth
+    depth_rest =
         let q = bits / 33554432 in
         omega (arith, div-add-mod' bits 33554432, mod-lt bits {m = 33554432} (omega arith), div-add-mod' q 512, mod-lt q {m = 512} (omega arith))
 
@@ -89,30 +75,55 @@ module _ (kind at held steps depth : ℕ) (hk : kind < 16) (ha : at ≤ 65535) (
         let q = bits / 17179869184 in
         omega (arith, div-add-mod' bits 17179869184, mod-lt bits {m = 17179869184} (omega arith), div-add-mod' q 67108864, mod-lt q {m = 67108864} (omega arith))
 
+    -- The kind that was packed is the kind that is read, whichever it was.
+    pub kind_back : bits / 1152921504606846976 ≡ kind
+    kind_back = omega (arith, div-add-mod' bits 1152921504606846976, mod-lt bits {m = 1152921504606846976} (omega arith))
+
+    pub made_back : Made kind → Made (bits / 1152921504606846976)
+    made_back m = rw kind_back m
+
+    -- And by its kind it is opened: 2 to 11, which no outcome has, as `Round`.
+    pub opening_refused : 2 ≤ kind → opening bits ≡ Refused (stop_of kind) at steps depth
+    opening_refused l =
+        rw (
+          le-ltb bits 1152921504606846976 (omega arith),
+          le-ltb bits 2305843009213693952 (omega arith),
+          kind_back,
+          place_rest,
+          steps_rest,
+          depth_rest,
+        )
+
+  module _ (number : Packed) (shut : number.bits ≡ packed kind at held steps depth) where
+    abbrev bits : ℕ
+    bits = number.bits
+
+    place_back : at_of number ≡ at
+    unfolding at_of
+    place_back = place_rest shut
+
+    held_back : held_of number ≡ held
+    unfolding held_of
+    held_back = held_rest shut
+
+    depth_back : depth_of number ≡ depth
+    unfolding depth_of
+    depth_back = depth_rest shut
+
     pub opens_passed : kind ≡ 0 → opened_of number ≡ Passed at held steps depth
-    unfolding opened_of steps_of
+    unfolding opened_of at_of held_of depth_of
     opens_passed z =
         let s : bits / 17179869184 ≡ steps = omega (arith, div-add-mod' bits 17179869184, mod-lt bits {m = 17179869184} (omega arith)) in
         rw (lt-ltb bits 1152921504606846976 (omega arith), place_back, held_back, s, depth_back)
 
     pub opens_failed : kind ≡ 1 → opened_of number ≡ Failed steps depth
-    unfolding opened_of
-    opens_failed o = rw (le-ltb bits 1152921504606846976 (omega arith), lt-ltb bits 2305843009213693952 (omega arith), steps_rest, depth_back)
+    unfolding opened_of depth_of
+    opens_failed o = rw (le-ltb bits 1152921504606846976 (omega arith), lt-ltb bits 2305843009213693952 (omega arith), steps_rest shut, depth_back)
 
     -- It is refused by what has the kind for its number.
     pub opens_refused : 2 ≤ kind → (opened_of number ≡ Refused (stop_of kind) at steps depth) × (number_of (stop_of kind) ≡ kind)
     unfolding opened_of
-    opens_refused l = (
-      rw (
-        le-ltb bits 1152921504606846976 (omega arith),
-        le-ltb bits 2305843009213693952 (omega arith),
-        kind_back shut,
-        place_back,
-        steps_rest,
-        depth_back,
-      ),
-      number_back kind (subst Made (kind_back shut) number.made) l,
-    )
+    opens_refused l = (opening_refused shut l, number_back kind (subst Made (kind_back shut) number.made) l)
 
     pub opens_stop : (k : Stop) → kind ≡ number_of k → opened_of number ≡ Refused k at steps depth
     opens_stop k e =
@@ -197,7 +208,7 @@ module _ (from : Packed) where
 
 -- What a number is opened to has the number's kind, each kind that there is.
 pub opens_kind : (r : Packed) → kind_of (opened_of r) ≡ r.bits / 1152921504606846976
-unfolding opened_of
+unfolding opened_of at_of held_of depth_of steps_of
 opens_kind r = go (ltb r.bits 1152921504606846976) refl (ltb r.bits 2305843009213693952) refl
   where
     go : (b : Bool) → ltb r.bits 1152921504606846976 ≡ b → (c : Bool) → ltb r.bits 2305843009213693952 ≡ c
@@ -219,7 +230,7 @@ opens_kind r = go (ltb r.bits 1152921504606846976) refl (ltb r.bits 230584300921
 
 -- What passed has the parts that it is opened to.
 pub has_parts : (r : Packed) {a h s d : ℕ} → opened_of r ≡ Passed a h s d → (a ≡ at_of r) × (h ≡ held_of r) × (s ≡ steps_of r) × (d ≡ depth_of r)
-unfolding opened_of
+unfolding opened_of at_of held_of depth_of steps_of
 has_parts r {a} {h} {s} {d} e = go (ltb r.bits 1152921504606846976) (ltb r.bits 2305843009213693952) e
   where
     go : (b c : Bool) → pick b (Passed (at_of r) (held_of r) (steps_of r) (depth_of r)) (pick c (Failed (r.bits / 17179869184 % 67108864) (depth_of r))

@@ -66,7 +66,7 @@ pub enum Outcome {
 // what the next expression starts from. No other kind is made than 0, which passed, 1, which failed, and 12 to 15, the numbers of what stops a run.
 #[derive(Clone, Copy, PartialEq, Eq, Debug)]
 pub struct Packed {
-    bits: u64,
+    pub bits: u64,
     pub ghost made: { Made (bits / 1152921504606846976) },
 }
 

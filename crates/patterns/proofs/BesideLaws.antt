@@ -15,11 +15,11 @@ use Rattle.walker.specs.declared.act.Open.{Open}
 use Rattle.walker.specs.declared.walk.Symbol.{Symbol}
 use Rattle.walker.specs.declared.walk.Walk.{Walk}
 use Rattle.walker.specs.declared.walk.Step.{Step}
-use Rattle.walker.specs.Walks.{rest, Walks, to_go, symbol_at, Nexts, Begins}
+use Rattle.walker.specs.Walks.{rest, Walks, to_go, symbol_at, Taken, Nexts, Begins}
 use Rattle.walker.specs.SymbolLaws.{taken_shown}
 use Rattle.patterns.specs.Bodies.{same_streams, defines_on, defs_on}
 use Rattle.patterns.specs.Compared.{stream_at}
-use Rattle.patterns.proofs.ContentsLaws.{symbols_agree}
+use Rattle.patterns.proofs.ContentsLaws.{symbols_agree, symbols_differ}
 
 -- ## A symbol
 
@@ -97,6 +97,14 @@ module _ {text : List ℕ} {left left' right right' : List Open} {v w x y : Walk
   -- They are not the same.
   pub contents_differ : same_symbol (symbol_at text t s) (symbol_at text u r) ≡ false → same_streams (rest text left v) (rest text right w) ≡ false
   contents_differ f = one_each ∙ rw f
+
+  -- Nor are they where the symbols differ.
+  pub others_differ : (s ≡ r → ⊥) → same_streams (rest text left v) (rest text right w) ≡ false
+  others_differ n = contents_differ (symbols_differ text t u s r (taken_shown text t s A.nexts.taken) (taken_shown text u r B.nexts.taken) n)
+
+  -- Where they are one symbol, the second token was taken for it too.
+  pub this_taken : s ≡ r → Taken text u s
+  this_taken e = rw e B.nexts.taken
 
   -- They are.
   module _ (f : same_symbol (symbol_at text t s) (symbol_at text u r) ≡ true) where
