@@ -132,6 +132,36 @@ module _ (kind at held steps depth : ℕ) (hk : kind < 16) (ha : at ≤ 65535) (
 
 -- ## The number that an expression starts from
 
+-- A number of any kind is its parts; without its place and symbols it is its depth and steps.
+module _ (n : ℕ) where
+  pub number_whole : n ≡ packed 0 (n % 65536) (n / 65536 % 512) (n / 17179869184) (n / 33554432 % 512)
+  number_whole =
+      omega (
+        arith,
+        div-add-mod' n 65536,
+        mod-lt n {m = 65536} (omega arith),
+        div-add-mod' (n / 65536) 512,
+        mod-lt (n / 65536) {m = 512} (omega arith),
+        div-add-mod' n 33554432,
+        mod-lt n {m = 33554432} (omega arith),
+        div-add-mod' (n / 33554432) 512,
+        mod-lt (n / 33554432) {m = 512} (omega arith),
+        div-add-mod' n 17179869184,
+        mod-lt n {m = 17179869184} (omega arith),
+      )
+
+  pub number_tally : n / 33554432 * 33554432 ≡ packed 0 0 0 (n / 17179869184) (n / 33554432 % 512)
+  number_tally =
+      omega (
+        arith,
+        div-add-mod' n 33554432,
+        mod-lt n {m = 33554432} (omega arith),
+        div-add-mod' (n / 33554432) 512,
+        mod-lt (n / 33554432) {m = 512} (omega arith),
+        div-add-mod' n 17179869184,
+        mod-lt n {m = 17179869184} (omega arith),
+      )
+
 module _ (from : Packed) where
   pub place_small : at_of from ≤ 65535
   unfolding at_of
@@ -145,37 +175,13 @@ module _ (from : Packed) where
   unfolding depth_of
   depth_small = omega (arith, mod-lt (from.bits / 33554432) {m = 512} (omega arith))
 
-  -- It is its parts.
   pub whole : from.bits ≡ packed 0 (at_of from) (held_of from) (steps_of from) (depth_of from)
   unfolding at_of held_of depth_of steps_of
-  whole =
-      omega (
-        arith,
-        div-add-mod' from.bits 65536,
-        mod-lt from.bits {m = 65536} (omega arith),
-        div-add-mod' (from.bits / 65536) 512,
-        mod-lt (from.bits / 65536) {m = 512} (omega arith),
-        div-add-mod' from.bits 33554432,
-        mod-lt from.bits {m = 33554432} (omega arith),
-        div-add-mod' (from.bits / 33554432) 512,
-        mod-lt (from.bits / 33554432) {m = 512} (omega arith),
-        div-add-mod' from.bits 17179869184,
-        mod-lt from.bits {m = 17179869184} (omega arith),
-      )
+  whole = number_whole from.bits
 
-  -- Without its place and symbols it is its depth and steps.
   pub tally_whole : from.bits / 33554432 * 33554432 ≡ packed 0 0 0 (steps_of from) (depth_of from)
   unfolding depth_of steps_of
-  tally_whole =
-      omega (
-        arith,
-        div-add-mod' from.bits 33554432,
-        mod-lt from.bits {m = 33554432} (omega arith),
-        div-add-mod' (from.bits / 33554432) 512,
-        mod-lt (from.bits / 33554432) {m = 512} (omega arith),
-        div-add-mod' from.bits 17179869184,
-        mod-lt from.bits {m = 17179869184} (omega arith),
-      )
+  tally_whole = number_tally from.bits
 
   module _ (few : steps_of from ≤ 1000000) where
     pub short_number : from.bits < 18014398509481984
