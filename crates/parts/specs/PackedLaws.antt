@@ -132,8 +132,17 @@ module _ (kind at held steps depth : ℕ) (hk : kind < 16) (ha : at ≤ 65535) (
 
 -- ## The number that an expression starts from
 
--- A number of any kind is its parts; without its place and symbols it is its depth and steps.
+-- A number of any kind has small parts, and is its parts; without its place and symbols it is its depth and steps.
 module _ (n : ℕ) where
+  pub number_place : n % 65536 ≤ 65535
+  number_place = omega (arith, mod-lt n {m = 65536} (omega arith))
+
+  pub number_held : n / 65536 % 512 ≤ 511
+  number_held = omega (arith, mod-lt (n / 65536) {m = 512} (omega arith))
+
+  pub number_depth : n / 33554432 % 512 ≤ 511
+  number_depth = omega (arith, mod-lt (n / 33554432) {m = 512} (omega arith))
+
   pub number_whole : n ≡ packed 0 (n % 65536) (n / 65536 % 512) (n / 17179869184) (n / 33554432 % 512)
   number_whole =
       omega (
@@ -165,15 +174,15 @@ module _ (n : ℕ) where
 module _ (from : Packed) where
   pub place_small : at_of from ≤ 65535
   unfolding at_of
-  place_small = omega (arith, mod-lt from.bits {m = 65536} (omega arith))
+  place_small = number_place from.bits
 
   pub held_small : held_of from ≤ 511
   unfolding held_of
-  held_small = omega (arith, mod-lt (from.bits / 65536) {m = 512} (omega arith))
+  held_small = number_held from.bits
 
   pub depth_small : depth_of from ≤ 511
   unfolding depth_of
-  depth_small = omega (arith, mod-lt (from.bits / 33554432) {m = 512} (omega arith))
+  depth_small = number_depth from.bits
 
   pub whole : from.bits ≡ packed 0 (at_of from) (held_of from) (steps_of from) (depth_of from)
   unfolding at_of held_of depth_of steps_of
