@@ -2,10 +2,11 @@
 use Rattle.std.proofs.Common.{ℕ, ◌+◌, ◌<◌, ◌≡◌, refl, ap, sym, subst, ◌∙◌, List, set, Result, Ok, Err, IsErrAnd}
 use Rattle.reader.specs.declared.reader.Reader.{Reader}
 use Rattle.reader.specs.declared.refusal.Refusal.{Refusal}
-use Rattle.reader.specs.Meant.{Reads, Gives, gives}
+use Rattle.reader.specs.Meant.{Reads, Gives}
+use Rattle.reader.specs.MeantLaws.{gives}
 use Rattle.format.specs.Reading.{Reading}
-use Rattle.image.specs.Filled.{Fills, Puts, fills_fault}
-use Rattle.image.specs.FilledLaws.{Filling, filling_more, filling_stops}
+use Rattle.image.specs.Filled.{Fills, Puts}
+use Rattle.image.specs.FilledLaws.{Filling, filling_more, filling_stops, fills_fault}
 
 -- What holds of a refusal holds of the result that a `?` hands on.
 pub err_is : {T E : Type 0} (P : Result T E → Type 0) {r : Result T E} {e : E} → IsErrAnd r (λ x. x ≡ e) → P (Err e) → P r

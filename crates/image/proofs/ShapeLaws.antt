@@ -17,7 +17,8 @@ use Rattle.format.specs.Image.{bounded, kinds}
 use Rattle.format.specs.ImageLaws.{number_all, bit_back}
 use Rattle.image.specs.Word.{packed, switch, keep, word_at}
 use Rattle.image.specs.Shapes.{word1, switched, last_at, truth_of, one_at, two_at, range_at, switch_at, if_at, on_at, operands_at}
-use Rattle.reader.specs.Meant.{behind, Reads, Gives, gives, reads_got, reads_fault}
+use Rattle.reader.specs.Meant.{behind, Reads, Gives}
+use Rattle.reader.specs.MeantLaws.{gives, reads_got, reads_fault}
 use Rattle.image.specs.declared.head.Head.{Head}
 use Rattle.image.proofs.FillLaws.{err_is}
 

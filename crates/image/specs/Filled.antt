@@ -1,8 +1,7 @@
 -- What the walk over an image puts down: an array of 524 numbers, a word for each node at the node's number, and each table's
 -- pattern at 512 plus the table's number. The four numbers behind those are left as they are: a caller keeps its limits and
 -- the image's length there.
-use Rattle.std.specs.Prelude.{ℕ, zero, suc, ◌+◌, ◌<◌, ◌≡◌, refl, List, ltb, length, get_or, set, Result, Err}
-use Rattle.std.proofs.Common.{ap}
+use Rattle.std.specs.Prelude.{ℕ, zero, suc, ◌+◌, ◌<◌, ◌≡◌, List, ltb, length, get_or, set, Result}
 use Rattle.grammar.specs.Grammar.{Grammar, tables, size, node, pattern}
 use Rattle.reader.specs.declared.reader.Reader.{Reader}
 use Rattle.reader.specs.declared.refusal.Refusal.{Refusal}
@@ -41,14 +40,6 @@ pub record Puts (p : ℕ → ℕ → Reading ℕ) (to k : ℕ) (from after : Rea
   pub result : told r after.at ≡ (times p 0 k from.at then put_down)
   pub image : after.image ≡ from.image
   pub array : now ≡ filling p to 0 k from.at before
-
-module _ {p : ℕ → ℕ → Reading ℕ} {to k : ℕ} {from after : Reader} {before now : List ℕ} where
-  pub puts : {r : Result (Unit {0}) Refusal} → Fills p to k from after before now r → Puts p to k from after before now r
-  puts f = record { result = f.result; image = f.image; array = f.array }
-
-  -- A refusal says where the reader stands, if it is left where it stood.
-  pub fills_fault : {e : Refusal} → Puts p to k from after before now (Err e) → Fills p to k from from before now (Err e)
-  fills_fault f = record { result = f.result; stands = ap (λ x. behind x from.at) f.result; image = refl; array = f.array }
 
 module _ (image : List ℕ) where
   abbrev pub with_patterns : Head → ℕ → List ℕ → List ℕ

@@ -1,13 +1,16 @@
 -- Laws of the array that the walk fills.
 use Prim.Native.Nat.{ℕ, zero, suc, ◌+◌, ◌-◌, ◌≤◌, ◌<◌}
-use Rattle.std.specs.Prelude.{◌≡◌, refl, List, ◌∷◌, length, get_or, set}
+use Rattle.std.specs.Prelude.{◌≡◌, refl, List, ◌∷◌, length, get_or, set, Result, Err}
 use Rattle.std.proofs.Common.{ap, ◌∙◌, add-one, length-set, get_or-set_same, get_or-set_other}
 use Rattle.std.proofs.Math.Path.{sym}
 use native.Mathlib.Omega.{arith}
 use Rattle.format.specs.Reading.{Reading, got, fault, ◌then◌}
 use Rattle.format.specs.ReadingLaws.{onward, then_assoc}
 use Rattle.format.specs.Image.{times}
-use Rattle.image.specs.Filled.{unless, filling, put_down}
+use Rattle.reader.specs.declared.reader.Reader.{Reader}
+use Rattle.reader.specs.declared.refusal.Refusal.{Refusal}
+use Rattle.reader.specs.Meant.{behind}
+use Rattle.image.specs.Filled.{unless, filling, put_down, Fills, Puts}
 
 -- ## A loop that puts readings down
 
@@ -63,6 +66,15 @@ module _ (p : ℕ → ℕ → Reading ℕ) (to N : ℕ) where
     filling_ends h =
         let left : N - i ≡ 0 = omega arith in
         (rw left at f.result, rw left at f.array)
+
+-- What the loop promises, with and without where the reader stands after a refusal.
+module _ {p : ℕ → ℕ → Reading ℕ} {to k : ℕ} {from after : Reader} {before now : List ℕ} where
+  pub puts : {r : Result (Unit {0}) Refusal} → Fills p to k from after before now r → Puts p to k from after before now r
+  puts f = record { result = f.result; image = f.image; array = f.array }
+
+  -- A refusal says where the reader stands, if it is left where it stood.
+  pub fills_fault : {e : Refusal} → Puts p to k from after before now (Err e) → Fills p to k from from before now (Err e)
+  fills_fault f = record { result = f.result; stands = ap (λ x. behind x from.at) f.result; image = refl; array = f.array }
 
 -- ## What the array holds
 

@@ -14,7 +14,8 @@ use Rattle.image.specs.declared.node.Node.{Node}
 use Rattle.image.specs.declared.node.Span.{Span}
 use Rattle.image.specs.Word.{packed}
 use Rattle.image.specs.Node.{node_of, span_of}
-use Rattle.image.specs.Filled.{Fills, Puts, puts, Loads}
+use Rattle.image.specs.Filled.{Fills, Puts, Loads}
+use Rattle.image.specs.FilledLaws.{puts}
 use Rattle.image.specs.Meant.{heading, headed, Begins, loaded, checked, verdict}
 
 -- `bounded`, `word_at` and every function that reads operands promise `Reads`: `one_read` of `reader`.

@@ -161,16 +161,9 @@ module _ (n : ℕ) where
 
   pub number_tally : n / 33554432 * 33554432 ≡ packed 0 0 0 (n / 17179869184) (n / 33554432 % 512)
   number_tally =
-      omega (
-        arith,
-        div-add-mod' n 33554432,
-        mod-lt n {m = 33554432} (omega arith),
-        div-add-mod' (n / 33554432) 512,
-        mod-lt (n / 33554432) {m = 512} (omega arith),
-        div-add-mod' n 17179869184,
-        mod-lt n {m = 17179869184} (omega arith),
-      )
+      omega (arith, number_whole, number_place, number_held, div-add-mod' n 33554432, mod-lt n {m = 33554432} (omega arith))
 
+-- So it is with the number of an outcome.
 module _ (from : Packed) where
   pub place_small : at_of from ≤ 65535
   unfolding at_of

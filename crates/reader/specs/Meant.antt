@@ -1,6 +1,5 @@
 -- What the values of the code say, in the terms of the definitions.
-use Rattle.std.specs.Prelude.{ℕ, ◌≡◌, refl, Result, Ok, Err}
-use Rattle.std.proofs.Common.{ap}
+use Rattle.std.specs.Prelude.{ℕ, ◌≡◌, Result, Ok, Err}
 use Rattle.reader.specs.declared.number.Number.{Number}
 use Rattle.reader.specs.declared.refusal.Fault.{Fault}
 use Rattle.reader.specs.declared.refusal.Fault.TheVariants.{TooLong, Cut, BadNumber, Edition, Counts, Tag, Range, Trailing}
@@ -50,14 +49,3 @@ pub record Reads {A : Type 0} (p : ℕ → Reading A) (before after : Reader) (r
 pub record Gives {A : Type 0} (p : ℕ → Reading A) (before after : Reader) (r : Result A Refusal) : Type 0 where
   pub result : told r after.at ≡ p before.at
   pub image : after.image ≡ before.image
-
-module _ {A : Type 0} {p : ℕ → Reading A} {before after : Reader} where
-  pub gives : {r : Result A Refusal} → Reads p before after r → Gives p before after r
-  gives o = record { result = o.result; image = o.image }
-
-  -- What was read says where the reader stands; a refusal says it of a reader that is left where it stood.
-  pub reads_got : {x : A} → Gives p before after (Ok x) → Reads p before after (Ok x)
-  reads_got g = record { result = g.result; stands = ap (λ x. behind x before.at) g.result; image = g.image }
-
-  pub reads_fault : {e : Refusal} → Gives p before after (Err e) → Reads p before before (Err e)
-  reads_fault g = record { result = g.result; stands = ap (λ x. behind x before.at) g.result; image = refl }
